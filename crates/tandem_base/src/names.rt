@@ -1,0 +1,34 @@
+/// When an operation was performed: the time and number of the message that performed it, and for
+/// a part of a drained merge-buffer line the number of its Insert. Places are ordered by their
+/// fields, from first to last.
+#[derive(Clone, Copy, Debug, PartialEq, Eq, PartialOrd, Ord)]
+pub struct Place {
+    pub time: u64,
+    pub message: u64,
+    pub insert: u64,
+}
+
+/// The name of a memory operation: its hart, the tag of its instruction, and the offset of its
+/// lowest byte within the instruction's extent.
+#[derive(Clone, Copy, Debug, PartialEq, Eq, PartialOrd, Ord)]
+pub struct OpName {
+    pub hart: u8,
+    pub tag: u64,
+    pub part: u8,
+}
+
+/// The hart and tag of an instruction, by which sources are told apart.
+#[derive(Clone, Copy, Debug, PartialEq, Eq, PartialOrd, Ord)]
+pub struct Origin {
+    pub hart: u8,
+    pub tag: u64,
+}
+
+/// Where a loaded byte comes from. The writer is None for the initial value; the place is that of
+/// the writer's operation on the byte, None where the source is initial or not performed.
+#[derive(Clone, Copy, Debug, PartialEq, Eq)]
+pub struct Source1 {
+    pub writer: Option<Origin>,
+    pub place: Option<Place>,
+    pub byte: u8,
+}
