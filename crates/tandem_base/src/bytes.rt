@@ -1,4 +1,5 @@
 ghost use Rattle.std.specs.Prelude.{◌≡◌, ◌<◌, ◌≤◌, ◌↔◌, length, slice_index, IsSome, IfSome};
+ghost use Rattle.tandem_base.specs.Bytes.{number_of};
 
 use std::marker::Model;
 
@@ -54,5 +55,12 @@ impl Bytes8 {
         ensures { result ≡ slice_index self.now k }
     {
         self.bytes[k as usize]
+    }
+
+    /// The number that the bytes are, lowest byte first.
+    pub fn number(&self) -> u64
+        ensures { result ≡ number_of self.now }
+    {
+        u64::from_le_bytes(self.bytes)
     }
 }
