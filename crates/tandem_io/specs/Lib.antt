@@ -1,0 +1,10 @@
+pub mod Causes
+pub mod Told
+pub mod Inputs
+pub mod Calls
+pub mod MemSink
+pub mod Store
+pub mod Cursor
+pub mod MemInputs
+pub mod Window
+pub mod FileSlot

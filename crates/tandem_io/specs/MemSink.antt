@@ -1,0 +1,29 @@
+-- A sink in memory, as its callers see it.
+use Rattle.std.specs.Prelude.{ℕ, ◌+◌, min, Bool, ◌||◌, List, [], ◌++◌, length, take, nat_lt, if◌then◌else◌}
+use Rattle.tandem_io.specs.Calls.{CallRecord, no_calls, next_fails, after_call}
+
+-- the bytes that it took, how many it has room for, how many a write takes at most, and its writes
+pub record Kept : Type 0 where
+  pub written : List ℕ
+  pub room : ℕ
+  pub step : ℕ
+  pub calls : CallRecord
+
+-- a sink that took nothing yet
+abbrev pub empty_sink : ℕ → ℕ → Kept
+empty_sink room step = record { written = []; room = room; step = step; calls = no_calls }
+
+-- how many bytes a write of this piece takes where it doesn't fail
+abbrev pub step_of : Kept → List ℕ → ℕ
+step_of sink piece = min sink.step (length piece)
+
+-- the next write fails: it is one of those that are to, or would pass the room
+abbrev pub write_fails : Kept → List ℕ → Bool
+write_fails sink piece = next_fails sink.calls || nat_lt sink.room (length sink.written + step_of sink piece)
+
+-- after a write of this piece
+abbrev pub after_write : Kept → List ℕ → Kept
+after_write sink piece = record sink {
+  written = if write_fails sink piece then sink.written else sink.written ++ take (step_of sink piece) piece;
+  calls = after_call sink.calls (write_fails sink piece);
+}

@@ -1,0 +1,217 @@
+use super::file_slot::FileSlot;
+use super::*;
+use std::alloc::{AllocError, Global};
+use std::fs;
+use std::io::{self, ErrorKind, Print, Read};
+use std::test::Fail;
+
+/// Inputs of which one content is there.
+fn holding(alloc: Global, step: usize) -> Result<MemInputs, AllocError> {
+    let mut ins = MemInputs::new(alloc, step.max(1));
+    ins.add("digits", b"0123456789")?;
+    Ok(ins)
+}
+
+/// The same of those that never fail.
+fn surely_holding(alloc: Global, step: usize) -> Result<SureInputs, AllocError> {
+    let mut ins = SureInputs::new(alloc, step.max(1));
+    ins.add("digits", b"0123456789")?;
+    Ok(ins)
+}
+
+/// What one read of up to eight bytes gives.
+fn read_once<I: Inputs>(alloc: Global, ins: &mut I, slot: Slot) -> Result<Vec<u8>, Fail> {
+    let mut buf = [0u8; 8];
+    let read = match slot {
+        Slot::Image => ins.read_image(&mut buf),
+        Slot::Stream => ins.read(&mut buf),
+    };
+    match read {
+        Ok(n) => Ok(Vec::from_slice(alloc, &buf[..n])?),
+        Err(Failed) => Ok(Vec::from_slice(alloc, b"failed")?),
+    }
+}
+
+/// Reads on to the end or the first failure.
+fn read_on<I: Inputs>(alloc: Global, ins: &mut I, slot: Slot) -> Result<Vec<u8>, Fail> {
+    let mut all = Vec::new(alloc);
+    for _ in 0..100 {
+        let piece = read_once(alloc, ins, slot)?;
+        if piece.is_empty() {
+            break;
+        }
+        all.extend_from_slice(&piece)?;
+    }
+    Ok(all)
+}
+
+#[test]
+fn reads_a_content_by_its_name(rt: HostRuntime) -> Result<(), Fail> {
+    let alloc = rt.alloc();
+    for step in [1, 7, 4096] {
+        let mut ins = holding(alloc, step)?;
+        assert_eq!(rt;
+            read_on(alloc, &mut ins, Slot::Stream)?.len(),
+            0,
+            "never attached"
+        );
+        assert_eq!(rt; ins.attach(Slot::Stream, "digit"), Ok(false));
+        for slot in [Slot::Image, Slot::Stream] {
+            assert_eq!(rt; ins.attach(slot, "digits"), Ok(true));
+            let all = read_on(alloc, &mut ins, slot)?;
+            assert_eq!(rt; all.as_slice(), b"0123456789".as_slice());
+        }
+    }
+    Ok(())
+}
+
+#[test]
+fn reads_surely(rt: HostRuntime) -> Result<(), Fail> {
+    let alloc = rt.alloc();
+    for step in [1, 7, 4096] {
+        let mut ins = surely_holding(alloc, step)?;
+        for slot in [Slot::Image, Slot::Stream] {
+            assert_eq!(rt; ins.attach(slot, "digit"), Ok(false));
+            assert_eq!(rt; ins.attach(slot, "digits"), Ok(true));
+            let all = read_on(alloc, &mut ins, slot)?;
+            assert_eq!(rt; all.as_slice(), b"0123456789".as_slice());
+        }
+    }
+    Ok(())
+}
+
+#[test]
+fn fails_at_the_calls_that_are_to_fail(rt: HostRuntime) -> Result<(), Fail> {
+    let alloc = rt.alloc();
+    for slot in [Slot::Image, Slot::Stream] {
+        let mut ins = holding(alloc, 7)?;
+        ins.fail_at(slot, 1)?;
+        ins.fail_at(slot, 4)?;
+        assert_eq!(rt; ins.attach(slot, "digits"), Err(Failed));
+        assert_eq!(rt; ins.attach(slot, "digits"), Ok(true));
+        for piece in ["0123456", "failed", "789", ""] {
+            let read = read_once(alloc, &mut ins, slot)?;
+            assert_eq!(rt; read.as_slice(), piece.as_bytes());
+        }
+    }
+    Ok(())
+}
+
+/// A sink with room for 20 bytes.
+fn sink_of(alloc: Global, step: usize, fails: u64) -> Result<MemSink, AllocError> {
+    let mut out = MemSink::new(alloc, 20, step.max(1))?;
+    out.fail_at(fails)?;
+    Ok(out)
+}
+
+#[test]
+fn keeps_what_was_written(rt: HostRuntime) -> Result<(), Fail> {
+    for (step, fails, put) in [(1, 3, 2), (7, 2, 7), (7, 9, 14), (40, 1, 0)] {
+        let mut out = sink_of(rt.alloc(), step, fails)?;
+        let failed = write_all(&mut out, b"twenty-one characters");
+        assert_eq!(rt; failed, Err(WriteFailed { put: put as u64 }));
+        assert_eq!(rt; out.bytes(), &b"twenty-one characters"[..put]);
+    }
+    let mut out = sink_of(rt.alloc(), 3, 9)?;
+    assert_eq!(rt; write_all(&mut out, b"a short text"), Ok(()));
+    assert_eq!(rt; out.bytes(), b"a short text".as_slice());
+    assert_eq!(rt; write_all(&mut SureSink::new(), b"any text"), Ok(()));
+    Ok(())
+}
+
+/// A file of which the first read gives 32 KiB, the second fails, and the third is its end.
+#[derive(Drop)]
+struct Torn {
+    reads: u8,
+}
+
+impl Read for Torn {
+    fn read(&mut self, buf: &mut [u8]) -> io::Result<usize> {
+        self.reads = self.reads.saturating_add(1);
+        match self.reads {
+            1 => Ok(buf.len().min(32_768)),
+            2 => Err(io::Error::from(ErrorKind::Interrupted)),
+            _ => Ok(0),
+        }
+    }
+}
+
+/// How many bytes a slot gives before its end or its first failure, and whether it failed.
+fn given_by(slot: &mut FileSlot<Torn>) -> (usize, bool) {
+    let mut total = 0usize;
+    for _ in 0..100_000 {
+        let mut buf = [0u8; 100];
+        match slot.read(&mut buf) {
+            Ok(0) => return (total, false),
+            Ok(n) => total = total.saturating_add(n),
+            Err(Failed) => return (total, true),
+        }
+    }
+    (total, false)
+}
+
+#[test]
+fn counts_what_a_file_refuses(rt: HostRuntime) {
+    let mut slot = FileSlot::new();
+    assert_eq!(rt; given_by(&mut slot), (0, false));
+    assert_eq!(rt;
+        slot.attach(Err(io::Error::from(ErrorKind::NotFound))),
+        Ok(false)
+    );
+    assert_eq!(rt;
+        slot.attach(Err(io::Error::from(ErrorKind::NotADirectory))),
+        Err(Failed)
+    );
+    assert_eq!(rt; slot.attach(Ok(Torn { reads: 0 })), Ok(true));
+    assert_eq!(rt; given_by(&mut slot), (32_768, true));
+    assert_eq!(rt; given_by(&mut slot), (0, false));
+}
+
+#[test]
+fn reads_real_files(rt: HostRuntime) -> Result<(), Fail> {
+    let alloc = rt.alloc();
+    fs::write(&rt, "digits", "0123456789")?;
+    let mut ins = FileInputs::new(&rt);
+    for slot in [Slot::Image, Slot::Stream] {
+        assert_eq!(rt; ins.attach(slot, "absent"), Ok(false));
+        assert_eq!(rt; read_on(alloc, &mut ins, slot)?.len(), 0, "never attached");
+        assert_eq!(rt; ins.attach(slot, "digits"), Ok(true));
+        let all = read_on(alloc, &mut ins, slot)?;
+        assert_eq!(rt; all.as_slice(), b"0123456789".as_slice());
+        if ins.attach(slot, ".") == Ok(true) {
+            let read = read_once(alloc, &mut ins, slot)?;
+            assert_eq!(rt; read.as_slice(), b"failed".as_slice(), "a directory");
+        }
+    }
+    Ok(())
+}
+
+/// An output that takes nothing.
+struct Full;
+
+impl Print for Full {
+    fn print<D: std::fmt::Display + Drop>(&self, _value: D) -> io::Result<()> {
+        Ok(())
+    }
+
+    fn println<D: std::fmt::Display + Drop>(&self, _value: D) -> io::Result<()> {
+        Ok(())
+    }
+
+    fn write_all(&self, _bytes: &[u8]) -> io::Result<()> {
+        Ok(())
+    }
+
+    fn write_some(&self, _bytes: &[u8]) -> io::Result<usize> {
+        Ok(0)
+    }
+}
+
+#[test]
+fn writes_to_the_output(rt: HostRuntime) {
+    assert_eq!(rt; write_all(&mut StdoutSink::new(&rt), b"a line\n"), Ok(()));
+    assert_eq!(rt;
+        write_all(&mut StdoutSink::new(&Full), b"x"),
+        Err(WriteFailed { put: 0 })
+    );
+}

@@ -1,0 +1,70 @@
+ghost use Rattle.std.specs.Prelude.{◌≡◌, ◌+◌, ◌-◌, ◌<◌, ◌≤◌, length, min, nat_eq, IfOk};
+
+use std::io::{self, Read};
+
+/// How many bytes of a file are asked for at a time: 64 KiB.
+const PIECE: usize = 65_536;
+
+/// A piece of a file, of which `bytes[start..end]` is not yet given on.
+#[derive(Drop)]
+pub(super) struct Window {
+    bytes: [u8; PIECE],
+    start: usize,
+    end: usize,
+    ghost ordered: { start ≤ end },
+    ghost in_bounds: { end ≤ 65536 },
+}
+
+impl Window {
+    ghost use Rattle.tandem_io.specs.Window.{unread_in};
+
+    pub(super) fn new() -> Window
+        ensures { unread_in result ≡ 0 }
+    {
+        Window {
+            bytes: [0; PIECE],
+            start: 0,
+            end: 0,
+        }
+    }
+
+    pub(super) fn is_empty(&self) -> bool
+        ensures { result ≡ nat_eq (unread_in self.now) 0 }
+    {
+        self.start == self.end
+    }
+
+    /// Drops what was not given on.
+    pub(super) fn clear(&mut self)
+        ensures { unread_in self.new ≡ 0 }
+    {
+        self.start = 0;
+        self.end = 0;
+    }
+
+    /// Reads the next piece into the window, which is empty.
+    pub(super) fn fill<F: Read>(&mut self, file: &mut F) -> io::Result<()> {
+        self.start = 0;
+        self.end = 0;
+        self.end = read_piece(file, &mut self.bytes)?;
+        Ok(())
+    }
+
+    /// Gives on as many bytes as it can, and answers how many.
+    pub(super) fn give(&mut self, buf: &mut [u8]) -> usize
+        ensures count { result ≡ min (length buf.old) (unread_in self.old) }
+        ensures rest { unread_in self.new + result ≡ unread_in self.old }
+    {
+        let n = buf.len().min(self.end - self.start);
+        let bytes = &self.bytes[..];
+        buf[..n].copy_from_slice(&bytes[self.start..self.start + n]);
+        self.start += n;
+        n
+    }
+}
+
+fn read_piece<F: Read>(file: &mut F, bytes: &mut [u8; PIECE]) -> io::Result<usize>
+    ensures { IfOk result (λ n. n ≤ 65536) }
+{
+    file.read(&mut bytes[..])
+}
