@@ -1,0 +1,3 @@
+pub mod BranchFields
+pub mod Opcodes
+pub mod Range

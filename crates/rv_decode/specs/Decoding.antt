@@ -1,0 +1,214 @@
+-- What each word encodes: the listings of chapter 24, read by the opcode and then by the other fields.
+use Rattle.std.specs.Prelude.{ℕ, ◌+◌, ◌-◌, ◌*◌, ◌^◌, ◌==◌, ℤ, pos, negsuc, Bool, true, false, ◌&&◌, nat_lt, if◌then◌else◌, List, [], ◌∷◌, find, Option, None, Some, option_map, option_and_then}
+use Rattle.rv_decode.specs.Formats.{part}
+use Rattle.rv_decode.specs.Operations.{Row, row, branch_funct3, load_funct3, store_funct3, reg_row, csr_funct3, amo_funct5, atomic_funct3}
+use Rattle.rv_decode.specs.declared.operations.BranchOp.{BranchOp}
+use Rattle.rv_decode.specs.declared.operations.BranchOp.TheVariants.{Beq, Bne, Blt, Bge, Bltu, Bgeu}
+use Rattle.rv_decode.specs.declared.operations.LoadOp.{LoadOp}
+use Rattle.rv_decode.specs.declared.operations.LoadOp.TheVariants.{Lb, Lh, Lw, Ld, Lbu, Lhu, Lwu}
+use Rattle.rv_decode.specs.declared.operations.StoreOp.{StoreOp}
+use Rattle.rv_decode.specs.declared.operations.StoreOp.TheVariants.{Sb, Sh, Sw, Sd}
+use Rattle.rv_decode.specs.declared.operations.ImmOp.TheVariants.{Addi, Slti, Sltiu, Xori, Ori, Andi, Slli, Srli, Srai, Addiw, Slliw, Srliw, Sraiw}
+use Rattle.rv_decode.specs.declared.operations.RegOp.{RegOp}
+use Rattle.rv_decode.specs.declared.operations.RegOp.TheVariants.{Add, Sub, Sll, Slt, Sltu, Xor, Srl, Sra, Or, And, Mul, Mulh, Mulhsu, Mulhu, Div, Divu, Rem, Remu, Addw, Subw, Sllw, Srlw, Sraw, Mulw, Divw, Divuw, Remw, Remuw}
+use Rattle.rv_decode.specs.declared.operations.CsrOp.{CsrOp}
+use Rattle.rv_decode.specs.declared.operations.CsrOp.TheVariants.{Rw, Rs, Rc, Rwi, Rsi, Rci}
+use Rattle.rv_decode.specs.declared.operations.AmoOp.{AmoOp}
+use Rattle.rv_decode.specs.declared.operations.AmoOp.TheVariants as amo
+use Rattle.rv_decode.specs.declared.instruction.Insn.{Insn}
+use Rattle.rv_decode.specs.declared.instruction.Insn.TheVariants.{Lui, Auipc, Jal, Jalr, Branch, Load, Store, AluImm, Alu, Fence, Ecall, Ebreak, Mret, Wfi, Csr, Lr, Sc, Amo}
+
+-- ---- the fields (sections 2.2 and 2.3)
+
+abbrev pub opcode_of : ℕ → ℕ
+opcode_of word = part word 6 0
+
+abbrev pub rd_of : ℕ → ℕ
+rd_of word = part word 11 7
+
+abbrev pub funct3_of : ℕ → ℕ
+funct3_of word = part word 14 12
+
+abbrev pub rs1_of : ℕ → ℕ
+rs1_of word = part word 19 15
+
+abbrev pub rs2_of : ℕ → ℕ
+rs2_of word = part word 24 20
+
+abbrev pub funct7_of : ℕ → ℕ
+funct7_of word = part word 31 25
+
+abbrev pub funct6_of : ℕ → ℕ
+funct6_of word = part word 31 26
+
+abbrev pub funct5_of : ℕ → ℕ
+funct5_of word = part word 31 27
+
+abbrev pub aq_of : ℕ → Bool
+aq_of word = part word 26 26 == 1
+
+abbrev pub rl_of : ℕ → Bool
+rl_of word = part word 25 25 == 1
+
+-- the number with a sign that so many bits are in two's complement
+abbrev pub signed : ℕ → ℕ → ℤ
+signed bits n = if nat_lt n (2 ^ (bits - 1)) then pos n else negsuc (2 ^ bits - 1 - n)
+
+abbrev pub i_imm : ℕ → ℤ
+i_imm word = signed 12 (part word 31 20)
+
+abbrev pub s_imm : ℕ → ℤ
+s_imm word = signed 12 (part word 31 25 * 2 ^ 5 + part word 11 7)
+
+abbrev pub b_imm : ℕ → ℤ
+b_imm word =
+    signed 13
+    (part word 31 31 * 2 ^ 12 + part word 7 7 * 2 ^ 11 + part word 30 25 * 2 ^ 5 + part word 11 8 * 2)
+
+abbrev pub u_imm : ℕ → ℤ
+u_imm word = signed 32 (part word 31 12 * 2 ^ 12)
+
+abbrev pub j_imm : ℕ → ℤ
+j_imm word =
+    signed 21
+    (part word 31 31 * 2 ^ 20 + part word 19 12 * 2 ^ 12 + part word 20 20 * 2 ^ 11 + part word 30 21 * 2)
+
+-- ---- the operations of each form, by the columns of the listings
+
+abbrev pub branch_at : ℕ → Option BranchOp
+branch_at funct3 = find (λ op. branch_funct3 op == funct3) (Beq ∷ Bne ∷ Blt ∷ Bge ∷ Bltu ∷ Bgeu ∷ [])
+
+abbrev pub load_at : ℕ → Option LoadOp
+load_at funct3 = find (λ op. load_funct3 op == funct3) (Lb ∷ Lh ∷ Lw ∷ Ld ∷ Lbu ∷ Lhu ∷ Lwu ∷ [])
+
+abbrev pub store_at : ℕ → Option StoreOp
+store_at funct3 = find (λ op. store_funct3 op == funct3) (Sb ∷ Sh ∷ Sw ∷ Sd ∷ [])
+
+abbrev pub csr_at : ℕ → Option CsrOp
+csr_at funct3 = find (λ op. csr_funct3 op == funct3) (Rw ∷ Rs ∷ Rc ∷ Rwi ∷ Rsi ∷ Rci ∷ [])
+
+abbrev pub amo_at : ℕ → Option AmoOp
+amo_at funct5 =
+    find (λ op. amo_funct5 op == funct5)
+    (amo.Swap ∷ amo.Add ∷ amo.Xor ∷ amo.And ∷ amo.Or ∷ amo.Min ∷ amo.Max ∷ amo.Minu ∷ amo.Maxu ∷ [])
+
+abbrev pub width_at : ℕ → Option Bool
+width_at funct3 = find (λ wide. atomic_funct3 wide == funct3) (false ∷ true ∷ [])
+
+-- two lines of the listing are one
+abbrev pub same_row : Row → Row → Bool
+same_row a b = (a.funct7 == b.funct7) && (a.funct3 == b.funct3) && (a.opcode == b.opcode)
+
+abbrev pub reg_ops : List RegOp
+reg_ops =
+    Add ∷ Sub ∷ Sll ∷ Slt ∷ Sltu ∷ Xor ∷ Srl ∷ Sra ∷ Or ∷ And
+    ∷ Mul ∷ Mulh ∷ Mulhsu ∷ Mulhu ∷ Div ∷ Divu ∷ Rem ∷ Remu
+    ∷ Addw ∷ Subw ∷ Sllw ∷ Srlw ∷ Sraw ∷ Mulw ∷ Divw ∷ Divuw ∷ Remw ∷ Remuw ∷ []
+
+abbrev pub reg_at : Row → Option RegOp
+reg_at line = find (λ op. same_row (reg_row op) line) reg_ops
+
+-- ---- the words of each opcode
+
+abbrev pub jalr_of : ℕ → Option Insn
+jalr_of word = if funct3_of word == 0b000 then Some (Jalr (rd_of word) (rs1_of word) (i_imm word)) else None
+
+abbrev pub branch_of : ℕ → Option Insn
+branch_of word =
+    option_map (λ op. Branch op (rs1_of word) (rs2_of word) (b_imm word)) (branch_at (funct3_of word))
+
+abbrev pub load_of : ℕ → Option Insn
+load_of word = option_map (λ op. Load op (rd_of word) (rs1_of word) (i_imm word)) (load_at (funct3_of word))
+
+abbrev pub store_of : ℕ → Option Insn
+store_of word = option_map (λ op. Store op (rs1_of word) (rs2_of word) (s_imm word)) (store_at (funct3_of word))
+
+-- the operations on an immediate of 64 bits; the shift amount has 6 bits
+abbrev pub alu_imm_of : ℕ → Option Insn
+alu_imm_of word =
+    let funct3 = funct3_of word in
+    let shift = pos (part word 25 20) in
+    if funct3 == 0b000 then Some (AluImm Addi (rd_of word) (rs1_of word) (i_imm word))
+    else if funct3 == 0b010 then Some (AluImm Slti (rd_of word) (rs1_of word) (i_imm word))
+    else if funct3 == 0b011 then Some (AluImm Sltiu (rd_of word) (rs1_of word) (i_imm word))
+    else if funct3 == 0b100 then Some (AluImm Xori (rd_of word) (rs1_of word) (i_imm word))
+    else if funct3 == 0b110 then Some (AluImm Ori (rd_of word) (rs1_of word) (i_imm word))
+    else if funct3 == 0b111 then Some (AluImm Andi (rd_of word) (rs1_of word) (i_imm word))
+    else if (funct6_of word == 0b000000) && (funct3 == 0b001)
+    then Some (AluImm Slli (rd_of word) (rs1_of word) shift)
+    else if (funct6_of word == 0b000000) && (funct3 == 0b101)
+    then Some (AluImm Srli (rd_of word) (rs1_of word) shift)
+    else if (funct6_of word == 0b010000) && (funct3 == 0b101)
+    then Some (AluImm Srai (rd_of word) (rs1_of word) shift)
+    else None
+
+-- the same on the low 32 bits; the shift amount has 5 bits
+abbrev pub alu_imm_word_of : ℕ → Option Insn
+alu_imm_word_of word =
+    let funct3 = funct3_of word in
+    let shift = pos (rs2_of word) in
+    if funct3 == 0b000 then Some (AluImm Addiw (rd_of word) (rs1_of word) (i_imm word))
+    else if (funct7_of word == 0b0000000) && (funct3 == 0b001)
+    then Some (AluImm Slliw (rd_of word) (rs1_of word) shift)
+    else if (funct7_of word == 0b0000000) && (funct3 == 0b101)
+    then Some (AluImm Srliw (rd_of word) (rs1_of word) shift)
+    else if (funct7_of word == 0b0100000) && (funct3 == 0b101)
+    then Some (AluImm Sraiw (rd_of word) (rs1_of word) shift)
+    else None
+
+-- the operations on registers, of 64 bits or of 32
+abbrev pub alu_of : ℕ → ℕ → Option Insn
+alu_of opcode word =
+    option_map (λ op. Alu op (rd_of word) (rs1_of word) (rs2_of word))
+    (reg_at (row (funct7_of word) (funct3_of word) opcode))
+
+abbrev pub fence_of : ℕ → Option Insn
+fence_of word =
+    if funct3_of word == 0b000
+    then Some (Fence (part word 31 28) (part word 27 24) (part word 23 20) (rd_of word) (rs1_of word))
+    else None
+
+abbrev pub csr_of : ℕ → Option Insn
+csr_of word =
+    option_map (λ op. Csr op (rd_of word) (rs1_of word) (part word 31 20)) (csr_at (funct3_of word))
+
+abbrev pub system_of : ℕ → Option Insn
+system_of word =
+    if word == 0x00000073 then Some Ecall
+    else if word == 0x00100073 then Some Ebreak
+    else if word == 0x30200073 then Some Mret
+    else if word == 0x10500073 then Some Wfi
+    else csr_of word
+
+abbrev pub atomic_with : ℕ → Bool → Option Insn
+atomic_with word wide =
+    if (funct5_of word == 0b00010) && (rs2_of word == 0)
+    then Some (Lr wide (aq_of word) (rl_of word) (rd_of word) (rs1_of word))
+    else if funct5_of word == 0b00011
+    then Some (Sc wide (aq_of word) (rl_of word) (rd_of word) (rs1_of word) (rs2_of word))
+    else
+    option_map (λ op. Amo op wide (aq_of word) (rl_of word) (rd_of word) (rs1_of word) (rs2_of word))
+    (amo_at (funct5_of word))
+
+abbrev pub atomic_of : ℕ → Option Insn
+atomic_of word = option_and_then (atomic_with word) (width_at (funct3_of word))
+
+-- ---- all words
+
+unfoldable pub decoding : ℕ → Option Insn
+decoding word =
+    if opcode_of word == 0b0110111 then Some (Lui (rd_of word) (u_imm word))
+    else if opcode_of word == 0b0010111 then Some (Auipc (rd_of word) (u_imm word))
+    else if opcode_of word == 0b1101111 then Some (Jal (rd_of word) (j_imm word))
+    else if opcode_of word == 0b1100111 then jalr_of word
+    else if opcode_of word == 0b1100011 then branch_of word
+    else if opcode_of word == 0b0000011 then load_of word
+    else if opcode_of word == 0b0100011 then store_of word
+    else if opcode_of word == 0b0010011 then alu_imm_of word
+    else if opcode_of word == 0b0011011 then alu_imm_word_of word
+    else if opcode_of word == 0b0110011 then alu_of 0b0110011 word
+    else if opcode_of word == 0b0111011 then alu_of 0b0111011 word
+    else if opcode_of word == 0b0001111 then fence_of word
+    else if opcode_of word == 0b1110011 then system_of word
+    else if opcode_of word == 0b0101111 then atomic_of word
+    else None

@@ -1,0 +1,4 @@
+pub mod Formats
+pub mod Operations
+pub mod Listing
+pub mod Decoding

@@ -1,0 +1,142 @@
+-- What tells the operations of one form apart: the columns of the listings of chapter 24.
+use Rattle.std.specs.Prelude.{ℕ, ℤ, Bool, true, false}
+use Rattle.rv_decode.specs.Formats.{field, IsSigned, IsAmount, i_type, r_type, shift_type}
+use Rattle.rv_decode.specs.declared.operations.BranchOp.{BranchOp}
+use Rattle.rv_decode.specs.declared.operations.BranchOp.TheVariants.{Beq, Bne, Blt, Bge, Bltu, Bgeu}
+use Rattle.rv_decode.specs.declared.operations.LoadOp.{LoadOp}
+use Rattle.rv_decode.specs.declared.operations.LoadOp.TheVariants.{Lb, Lh, Lw, Ld, Lbu, Lhu, Lwu}
+use Rattle.rv_decode.specs.declared.operations.StoreOp.{StoreOp}
+use Rattle.rv_decode.specs.declared.operations.StoreOp.TheVariants.{Sb, Sh, Sw, Sd}
+use Rattle.rv_decode.specs.declared.operations.ImmOp.{ImmOp}
+use Rattle.rv_decode.specs.declared.operations.ImmOp.TheVariants.{Addi, Slti, Sltiu, Xori, Ori, Andi, Slli, Srli, Srai, Addiw, Slliw, Srliw, Sraiw}
+use Rattle.rv_decode.specs.declared.operations.RegOp.{RegOp}
+use Rattle.rv_decode.specs.declared.operations.RegOp.TheVariants.{Add, Sub, Sll, Slt, Sltu, Xor, Srl, Sra, Or, And, Mul, Mulh, Mulhsu, Mulhu, Div, Divu, Rem, Remu, Addw, Subw, Sllw, Srlw, Sraw, Mulw, Divw, Divuw, Remw, Remuw}
+use Rattle.rv_decode.specs.declared.operations.CsrOp.{CsrOp}
+use Rattle.rv_decode.specs.declared.operations.CsrOp.TheVariants.{Rw, Rs, Rc, Rwi, Rsi, Rci}
+use Rattle.rv_decode.specs.declared.operations.AmoOp.{AmoOp}
+use Rattle.rv_decode.specs.declared.operations.AmoOp.TheVariants as amo
+
+-- funct3 of the branches
+abbrev pub branch_funct3 : BranchOp → ℕ
+branch_funct3 Beq = 0b000
+branch_funct3 Bne = 0b001
+branch_funct3 Blt = 0b100
+branch_funct3 Bge = 0b101
+branch_funct3 Bltu = 0b110
+branch_funct3 Bgeu = 0b111
+
+-- funct3 of the loads
+abbrev pub load_funct3 : LoadOp → ℕ
+load_funct3 Lb = 0b000
+load_funct3 Lh = 0b001
+load_funct3 Lw = 0b010
+load_funct3 Ld = 0b011
+load_funct3 Lbu = 0b100
+load_funct3 Lhu = 0b101
+load_funct3 Lwu = 0b110
+
+-- funct3 of the stores
+abbrev pub store_funct3 : StoreOp → ℕ
+store_funct3 Sb = 0b000
+store_funct3 Sh = 0b001
+store_funct3 Sw = 0b010
+store_funct3 Sd = 0b011
+
+-- the word of an operation on an immediate, rs1 and rd
+abbrev pub imm_word : ImmOp → ℤ → ℕ → ℕ → ℕ
+imm_word Addi imm rs1 rd = i_type (field 12 imm) rs1 0b000 rd 0b0010011
+imm_word Slti imm rs1 rd = i_type (field 12 imm) rs1 0b010 rd 0b0010011
+imm_word Sltiu imm rs1 rd = i_type (field 12 imm) rs1 0b011 rd 0b0010011
+imm_word Xori imm rs1 rd = i_type (field 12 imm) rs1 0b100 rd 0b0010011
+imm_word Ori imm rs1 rd = i_type (field 12 imm) rs1 0b110 rd 0b0010011
+imm_word Andi imm rs1 rd = i_type (field 12 imm) rs1 0b111 rd 0b0010011
+imm_word Slli imm rs1 rd = shift_type 0b000000 (field 6 imm) rs1 0b001 rd 0b0010011
+imm_word Srli imm rs1 rd = shift_type 0b000000 (field 6 imm) rs1 0b101 rd 0b0010011
+imm_word Srai imm rs1 rd = shift_type 0b010000 (field 6 imm) rs1 0b101 rd 0b0010011
+imm_word Addiw imm rs1 rd = i_type (field 12 imm) rs1 0b000 rd 0b0011011
+imm_word Slliw imm rs1 rd = r_type 0b0000000 (field 5 imm) rs1 0b001 rd 0b0011011
+imm_word Srliw imm rs1 rd = r_type 0b0000000 (field 5 imm) rs1 0b101 rd 0b0011011
+imm_word Sraiw imm rs1 rd = r_type 0b0100000 (field 5 imm) rs1 0b101 rd 0b0011011
+
+-- the immediates of an operation: 12 signed bits, or a shift amount of 6 bits, or of 5 on words
+abbrev pub IsOperand : ImmOp → ℤ → Type 0
+IsOperand Addi imm = IsSigned 12 imm
+IsOperand Slti imm = IsSigned 12 imm
+IsOperand Sltiu imm = IsSigned 12 imm
+IsOperand Xori imm = IsSigned 12 imm
+IsOperand Ori imm = IsSigned 12 imm
+IsOperand Andi imm = IsSigned 12 imm
+IsOperand Slli imm = IsAmount 6 imm
+IsOperand Srli imm = IsAmount 6 imm
+IsOperand Srai imm = IsAmount 6 imm
+IsOperand Addiw imm = IsSigned 12 imm
+IsOperand Slliw imm = IsAmount 5 imm
+IsOperand Srliw imm = IsAmount 5 imm
+IsOperand Sraiw imm = IsAmount 5 imm
+
+-- the three columns of an operation on registers
+pub record Row : Type 0 where
+  pub funct7 : ℕ
+  pub funct3 : ℕ
+  pub opcode : ℕ
+
+-- a line of the listing
+abbrev pub row : ℕ → ℕ → ℕ → Row
+row funct7 funct3 opcode = record { funct7 = funct7; funct3 = funct3; opcode = opcode }
+
+-- the operations on registers
+abbrev pub reg_row : RegOp → Row
+reg_row Add = row 0b0000000 0b000 0b0110011
+reg_row Sub = row 0b0100000 0b000 0b0110011
+reg_row Sll = row 0b0000000 0b001 0b0110011
+reg_row Slt = row 0b0000000 0b010 0b0110011
+reg_row Sltu = row 0b0000000 0b011 0b0110011
+reg_row Xor = row 0b0000000 0b100 0b0110011
+reg_row Srl = row 0b0000000 0b101 0b0110011
+reg_row Sra = row 0b0100000 0b101 0b0110011
+reg_row Or = row 0b0000000 0b110 0b0110011
+reg_row And = row 0b0000000 0b111 0b0110011
+reg_row Mul = row 0b0000001 0b000 0b0110011
+reg_row Mulh = row 0b0000001 0b001 0b0110011
+reg_row Mulhsu = row 0b0000001 0b010 0b0110011
+reg_row Mulhu = row 0b0000001 0b011 0b0110011
+reg_row Div = row 0b0000001 0b100 0b0110011
+reg_row Divu = row 0b0000001 0b101 0b0110011
+reg_row Rem = row 0b0000001 0b110 0b0110011
+reg_row Remu = row 0b0000001 0b111 0b0110011
+reg_row Addw = row 0b0000000 0b000 0b0111011
+reg_row Subw = row 0b0100000 0b000 0b0111011
+reg_row Sllw = row 0b0000000 0b001 0b0111011
+reg_row Srlw = row 0b0000000 0b101 0b0111011
+reg_row Sraw = row 0b0100000 0b101 0b0111011
+reg_row Mulw = row 0b0000001 0b000 0b0111011
+reg_row Divw = row 0b0000001 0b100 0b0111011
+reg_row Divuw = row 0b0000001 0b101 0b0111011
+reg_row Remw = row 0b0000001 0b110 0b0111011
+reg_row Remuw = row 0b0000001 0b111 0b0111011
+
+-- funct3 of the CSR instructions
+abbrev pub csr_funct3 : CsrOp → ℕ
+csr_funct3 Rw = 0b001
+csr_funct3 Rs = 0b010
+csr_funct3 Rc = 0b011
+csr_funct3 Rwi = 0b101
+csr_funct3 Rsi = 0b110
+csr_funct3 Rci = 0b111
+
+-- funct5 of the atomic operations
+abbrev pub amo_funct5 : AmoOp → ℕ
+amo_funct5 amo.Swap = 0b00001
+amo_funct5 amo.Add = 0b00000
+amo_funct5 amo.Xor = 0b00100
+amo_funct5 amo.And = 0b01100
+amo_funct5 amo.Or = 0b01000
+amo_funct5 amo.Min = 0b10000
+amo_funct5 amo.Max = 0b10100
+amo_funct5 amo.Minu = 0b11000
+amo_funct5 amo.Maxu = 0b11100
+
+-- funct3 of the atomic instructions, on words or on doublewords
+abbrev pub atomic_funct3 : Bool → ℕ
+atomic_funct3 false = 0b010
+atomic_funct3 true = 0b011

@@ -1,0 +1,158 @@
+//! The columns of the listing, from operations and to them.
+
+ghost use Rattle.rv_decode.specs.Decoding.{branch_at, load_at, store_at, csr_at, amo_at, reg_at, width_at};
+ghost use Rattle.std.specs.Prelude.{◌≡◌, ℕ, ◌<◌, ◌^◌, Bool, IfSome};
+ghost use Rattle.rv_decode.specs.Operations.{branch_funct3, load_funct3, store_funct3, csr_funct3, amo_funct5, atomic_funct3, reg_row, row};
+ghost use Rattle.rv_decode.specs.declared.operations.BranchOp.{BranchOp};
+ghost use Rattle.rv_decode.specs.declared.operations.LoadOp.{LoadOp};
+ghost use Rattle.rv_decode.specs.declared.operations.StoreOp.{StoreOp};
+ghost use Rattle.rv_decode.specs.declared.operations.CsrOp.{CsrOp};
+ghost use Rattle.rv_decode.specs.declared.operations.AmoOp.{AmoOp};
+ghost use Rattle.rv_decode.specs.declared.operations.RegOp.{RegOp};
+
+use crate::operations::{AmoOp, BranchOp, CsrOp, LoadOp, RegOp, StoreOp};
+
+pub fn branch_op(funct3: u32) -> Option<BranchOp>
+    ensures is { result ≡ branch_at funct3 }
+    ensures found { IfSome result (λ op. funct3 ≡ branch_funct3 op) }
+    ensures only { (op : BranchOp) → funct3 ≡ branch_funct3 op → result ≡ Some op }
+{
+    match funct3 {
+        0b000 => Some(BranchOp::Beq),
+        0b001 => Some(BranchOp::Bne),
+        0b100 => Some(BranchOp::Blt),
+        0b101 => Some(BranchOp::Bge),
+        0b110 => Some(BranchOp::Bltu),
+        0b111 => Some(BranchOp::Bgeu),
+        _ => None,
+    }
+}
+
+pub fn load_op(funct3: u32) -> Option<LoadOp>
+    ensures is { result ≡ load_at funct3 }
+    ensures found { IfSome result (λ op. funct3 ≡ load_funct3 op) }
+    ensures only { (op : LoadOp) → funct3 ≡ load_funct3 op → result ≡ Some op }
+{
+    match funct3 {
+        0b000 => Some(LoadOp::Lb),
+        0b001 => Some(LoadOp::Lh),
+        0b010 => Some(LoadOp::Lw),
+        0b011 => Some(LoadOp::Ld),
+        0b100 => Some(LoadOp::Lbu),
+        0b101 => Some(LoadOp::Lhu),
+        0b110 => Some(LoadOp::Lwu),
+        _ => None,
+    }
+}
+
+pub fn store_op(funct3: u32) -> Option<StoreOp>
+    ensures is { result ≡ store_at funct3 }
+    ensures found { IfSome result (λ op. funct3 ≡ store_funct3 op) }
+    ensures only { (op : StoreOp) → funct3 ≡ store_funct3 op → result ≡ Some op }
+{
+    match funct3 {
+        0b000 => Some(StoreOp::Sb),
+        0b001 => Some(StoreOp::Sh),
+        0b010 => Some(StoreOp::Sw),
+        0b011 => Some(StoreOp::Sd),
+        _ => None,
+    }
+}
+
+pub fn csr_op(funct3: u32) -> Option<CsrOp>
+    ensures is { result ≡ csr_at funct3 }
+    ensures found { IfSome result (λ op. funct3 ≡ csr_funct3 op) }
+    ensures only { (op : CsrOp) → funct3 ≡ csr_funct3 op → result ≡ Some op }
+{
+    match funct3 {
+        0b001 => Some(CsrOp::Rw),
+        0b010 => Some(CsrOp::Rs),
+        0b011 => Some(CsrOp::Rc),
+        0b101 => Some(CsrOp::Rwi),
+        0b110 => Some(CsrOp::Rsi),
+        0b111 => Some(CsrOp::Rci),
+        _ => None,
+    }
+}
+
+pub fn amo_op(funct5: u32) -> Option<AmoOp>
+    ensures is { result ≡ amo_at funct5 }
+    ensures found { IfSome result (λ op. funct5 ≡ amo_funct5 op) }
+    ensures only { (op : AmoOp) → funct5 ≡ amo_funct5 op → result ≡ Some op }
+{
+    match funct5 {
+        0b00001 => Some(AmoOp::Swap),
+        0b00000 => Some(AmoOp::Add),
+        0b00100 => Some(AmoOp::Xor),
+        0b01100 => Some(AmoOp::And),
+        0b01000 => Some(AmoOp::Or),
+        0b10000 => Some(AmoOp::Min),
+        0b10100 => Some(AmoOp::Max),
+        0b11000 => Some(AmoOp::Minu),
+        0b11100 => Some(AmoOp::Maxu),
+        _ => None,
+    }
+}
+
+/// The operation on 64 bits.
+pub fn reg_op(funct7: u32, funct3: u32) -> Option<RegOp>
+    ensures is { result ≡ reg_at (row funct7 funct3 0b0110011) }
+    ensures found { IfSome result (λ op. reg_row op ≡ row funct7 funct3 0b0110011) }
+    ensures only { (op : RegOp) → reg_row op ≡ row funct7 funct3 0b0110011 → result ≡ Some op }
+{
+    match (funct7, funct3) {
+        (0b0000000, 0b000) => Some(RegOp::Add),
+        (0b0000000, 0b001) => Some(RegOp::Sll),
+        (0b0000000, 0b010) => Some(RegOp::Slt),
+        (0b0000000, 0b011) => Some(RegOp::Sltu),
+        (0b0000000, 0b100) => Some(RegOp::Xor),
+        (0b0000000, 0b101) => Some(RegOp::Srl),
+        (0b0000000, 0b110) => Some(RegOp::Or),
+        (0b0000000, 0b111) => Some(RegOp::And),
+        (0b0100000, 0b000) => Some(RegOp::Sub),
+        (0b0100000, 0b101) => Some(RegOp::Sra),
+        (0b0000001, 0b000) => Some(RegOp::Mul),
+        (0b0000001, 0b001) => Some(RegOp::Mulh),
+        (0b0000001, 0b010) => Some(RegOp::Mulhsu),
+        (0b0000001, 0b011) => Some(RegOp::Mulhu),
+        (0b0000001, 0b100) => Some(RegOp::Div),
+        (0b0000001, 0b101) => Some(RegOp::Divu),
+        (0b0000001, 0b110) => Some(RegOp::Rem),
+        (0b0000001, 0b111) => Some(RegOp::Remu),
+        _ => None,
+    }
+}
+
+/// The operation on the low 32 bits.
+pub fn reg_op_word(funct7: u32, funct3: u32) -> Option<RegOp>
+    ensures is { result ≡ reg_at (row funct7 funct3 0b0111011) }
+    ensures found { IfSome result (λ op. reg_row op ≡ row funct7 funct3 0b0111011) }
+    ensures only { (op : RegOp) → reg_row op ≡ row funct7 funct3 0b0111011 → result ≡ Some op }
+{
+    match (funct7, funct3) {
+        (0b0000000, 0b000) => Some(RegOp::Addw),
+        (0b0000000, 0b001) => Some(RegOp::Sllw),
+        (0b0000000, 0b101) => Some(RegOp::Srlw),
+        (0b0100000, 0b000) => Some(RegOp::Subw),
+        (0b0100000, 0b101) => Some(RegOp::Sraw),
+        (0b0000001, 0b000) => Some(RegOp::Mulw),
+        (0b0000001, 0b100) => Some(RegOp::Divw),
+        (0b0000001, 0b101) => Some(RegOp::Divuw),
+        (0b0000001, 0b110) => Some(RegOp::Remw),
+        (0b0000001, 0b111) => Some(RegOp::Remuw),
+        _ => None,
+    }
+}
+
+/// Whether the atomic instruction is on doublewords.
+pub fn width(funct3: u32) -> Option<bool>
+    ensures is { result ≡ width_at funct3 }
+    ensures found { IfSome result (λ wide. funct3 ≡ atomic_funct3 wide) }
+    ensures only { (wide : Bool) → funct3 ≡ atomic_funct3 wide → result ≡ Some wide }
+{
+    match funct3 {
+        0b010 => Some(false),
+        0b011 => Some(true),
+        _ => None,
+    }
+}

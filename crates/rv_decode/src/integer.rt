@@ -1,0 +1,205 @@
+//! Words of one opcode, on registers and immediates.
+
+ghost use Rattle.rv_decode.specs.Decoding.{rd_of, u_imm, j_imm, jalr_of, branch_of, load_of, store_of, alu_imm_of, alu_imm_word_of, alu_of};
+ghost use Rattle.std.specs.Prelude.{◌≡◌, ℕ, ℤ, IfSome};
+ghost use Rattle.rv_decode.specs.Formats.{part};
+ghost use Rattle.rv_decode.specs.Listing.{Encodes};
+ghost use Rattle.rv_decode.specs.declared.operations.BranchOp.{BranchOp};
+ghost use Rattle.rv_decode.specs.declared.operations.LoadOp.{LoadOp};
+ghost use Rattle.rv_decode.specs.declared.operations.StoreOp.{StoreOp};
+ghost use Rattle.rv_decode.specs.declared.operations.RegOp.{RegOp};
+ghost use Rattle.rv_decode.specs.declared.operations.ImmOp.{ImmOp};
+ghost use Rattle.rv_decode.specs.declared.instruction.Insn.TheVariants.{Lui, Auipc, Jal, Jalr, Branch, Load, Store, AluImm, Alu};
+
+use crate::columns::{branch_op, load_op, reg_op, reg_op_word, store_op};
+use crate::fields::{amount, funct3, funct6, funct7, rd, rs1, rs2};
+use crate::immediates::{b_immediate, i_immediate, j_immediate, s_immediate, u_immediate};
+use crate::instruction::Insn;
+use crate::operations::ImmOp;
+
+pub fn lui(word: u32) -> Insn
+    requires { part word 6 0 ≡ 0b0110111 }
+    ensures is { result ≡ Lui (rd_of word) (u_imm word) }
+    ensures found { Encodes word result }
+    ensures only { (rd : ℕ) (imm : ℤ) → Encodes word (Lui rd imm) → result ≡ Lui rd imm }
+{
+    Insn::Lui {
+        rd: rd(word),
+        imm: u_immediate(word),
+    }
+}
+
+pub fn auipc(word: u32) -> Insn
+    requires { part word 6 0 ≡ 0b0010111 }
+    ensures is { result ≡ Auipc (rd_of word) (u_imm word) }
+    ensures found { Encodes word result }
+    ensures only { (rd : ℕ) (imm : ℤ) → Encodes word (Auipc rd imm) → result ≡ Auipc rd imm }
+{
+    Insn::Auipc {
+        rd: rd(word),
+        imm: u_immediate(word),
+    }
+}
+
+pub fn jal(word: u32) -> Insn
+    requires { part word 6 0 ≡ 0b1101111 }
+    ensures is { result ≡ Jal (rd_of word) (j_imm word) }
+    ensures found { Encodes word result }
+    ensures only { (rd : ℕ) (imm : ℤ) → Encodes word (Jal rd imm) → result ≡ Jal rd imm }
+{
+    Insn::Jal {
+        rd: rd(word),
+        imm: j_immediate(word),
+    }
+}
+
+pub fn jalr(word: u32) -> Option<Insn>
+    requires { part word 6 0 ≡ 0b1100111 }
+    ensures is { result ≡ jalr_of word }
+    ensures found { IfSome result (Encodes word) }
+    ensures only { (rd rs1 : ℕ) (imm : ℤ) → Encodes word (Jalr rd rs1 imm) → result ≡ Some (Jalr rd rs1 imm) }
+{
+    match funct3(word) {
+        0b000 => Some(Insn::Jalr {
+            rd: rd(word),
+            rs1: rs1(word),
+            imm: i_immediate(word),
+        }),
+        _ => None,
+    }
+}
+
+pub fn branch(word: u32) -> Option<Insn>
+    requires { part word 6 0 ≡ 0b1100011 }
+    ensures is { result ≡ branch_of word }
+    ensures found { IfSome result (Encodes word) }
+    ensures only { (op : BranchOp) (rs1 rs2 : ℕ) (imm : ℤ)
+        → Encodes word (Branch op rs1 rs2 imm) → result ≡ Some (Branch op rs1 rs2 imm) }
+{
+    let op = branch_op(funct3(word))?;
+    Some(Insn::Branch {
+        op,
+        rs1: rs1(word),
+        rs2: rs2(word),
+        imm: b_immediate(word),
+    })
+}
+
+pub fn load(word: u32) -> Option<Insn>
+    requires { part word 6 0 ≡ 0b0000011 }
+    ensures is { result ≡ load_of word }
+    ensures found { IfSome result (Encodes word) }
+    ensures only { (op : LoadOp) (rd rs1 : ℕ) (imm : ℤ)
+        → Encodes word (Load op rd rs1 imm) → result ≡ Some (Load op rd rs1 imm) }
+{
+    let op = load_op(funct3(word))?;
+    Some(Insn::Load {
+        op,
+        rd: rd(word),
+        rs1: rs1(word),
+        imm: i_immediate(word),
+    })
+}
+
+pub fn store(word: u32) -> Option<Insn>
+    requires { part word 6 0 ≡ 0b0100011 }
+    ensures is { result ≡ store_of word }
+    ensures found { IfSome result (Encodes word) }
+    ensures only { (op : StoreOp) (rs1 rs2 : ℕ) (imm : ℤ)
+        → Encodes word (Store op rs1 rs2 imm) → result ≡ Some (Store op rs1 rs2 imm) }
+{
+    let op = store_op(funct3(word))?;
+    Some(Insn::Store {
+        op,
+        rs1: rs1(word),
+        rs2: rs2(word),
+        imm: s_immediate(word),
+    })
+}
+
+/// The operation on rs1 and the immediate, to rd.
+fn alu_imm_of(op: ImmOp, word: u32, imm: i64) -> Insn
+    ensures { result ≡ AluImm op (part word 11 7) (part word 19 15) imm }
+{
+    Insn::AluImm {
+        op,
+        rd: rd(word),
+        rs1: rs1(word),
+        imm,
+    }
+}
+
+/// An operation on 64 bits and an immediate.
+pub fn alu_imm(word: u32) -> Option<Insn>
+    requires { part word 6 0 ≡ 0b0010011 }
+    ensures is { result ≡ alu_imm_of word }
+    ensures found { IfSome result (Encodes word) }
+    ensures only { (op : ImmOp) (rd rs1 : ℕ) (imm : ℤ)
+        → Encodes word (AluImm op rd rs1 imm) → result ≡ Some (AluImm op rd rs1 imm) }
+{
+    let (imm, shift) = (i_immediate(word), amount(word));
+    match (funct6(word), funct3(word)) {
+        (_, 0b000) => Some(alu_imm_of(ImmOp::Addi, word, imm)),
+        (_, 0b010) => Some(alu_imm_of(ImmOp::Slti, word, imm)),
+        (_, 0b011) => Some(alu_imm_of(ImmOp::Sltiu, word, imm)),
+        (_, 0b100) => Some(alu_imm_of(ImmOp::Xori, word, imm)),
+        (_, 0b110) => Some(alu_imm_of(ImmOp::Ori, word, imm)),
+        (_, 0b111) => Some(alu_imm_of(ImmOp::Andi, word, imm)),
+        (0b000000, 0b001) => Some(alu_imm_of(ImmOp::Slli, word, shift)),
+        (0b000000, 0b101) => Some(alu_imm_of(ImmOp::Srli, word, shift)),
+        (0b010000, 0b101) => Some(alu_imm_of(ImmOp::Srai, word, shift)),
+        _ => None,
+    }
+}
+
+/// An operation on the low 32 bits and an immediate.
+pub fn alu_imm_word(word: u32) -> Option<Insn>
+    requires { part word 6 0 ≡ 0b0011011 }
+    ensures is { result ≡ alu_imm_word_of word }
+    ensures found { IfSome result (Encodes word) }
+    ensures only { (op : ImmOp) (rd rs1 : ℕ) (imm : ℤ)
+        → Encodes word (AluImm op rd rs1 imm) → result ≡ Some (AluImm op rd rs1 imm) }
+{
+    let shift = i64::from(rs2(word));
+    match (funct7(word), funct3(word)) {
+        (_, 0b000) => Some(alu_imm_of(ImmOp::Addiw, word, i_immediate(word))),
+        (0b0000000, 0b001) => Some(alu_imm_of(ImmOp::Slliw, word, shift)),
+        (0b0000000, 0b101) => Some(alu_imm_of(ImmOp::Srliw, word, shift)),
+        (0b0100000, 0b101) => Some(alu_imm_of(ImmOp::Sraiw, word, shift)),
+        _ => None,
+    }
+}
+
+/// An operation on 64 bits.
+pub fn alu(word: u32) -> Option<Insn>
+    requires { part word 6 0 ≡ 0b0110011 }
+    ensures is { result ≡ alu_of 0b0110011 word }
+    ensures found { IfSome result (Encodes word) }
+    ensures only { (op : RegOp) (rd rs1 rs2 : ℕ)
+        → Encodes word (Alu op rd rs1 rs2) → result ≡ Some (Alu op rd rs1 rs2) }
+{
+    let op = reg_op(funct7(word), funct3(word))?;
+    Some(Insn::Alu {
+        op,
+        rd: rd(word),
+        rs1: rs1(word),
+        rs2: rs2(word),
+    })
+}
+
+/// An operation on the low 32 bits.
+pub fn alu_word(word: u32) -> Option<Insn>
+    requires { part word 6 0 ≡ 0b0111011 }
+    ensures is { result ≡ alu_of 0b0111011 word }
+    ensures found { IfSome result (Encodes word) }
+    ensures only { (op : RegOp) (rd rs1 rs2 : ℕ)
+        → Encodes word (Alu op rd rs1 rs2) → result ≡ Some (Alu op rd rs1 rs2) }
+{
+    let op = reg_op_word(funct7(word), funct3(word))?;
+    Some(Insn::Alu {
+        op,
+        rd: rd(word),
+        rs1: rs1(word),
+        rs2: rs2(word),
+    })
+}
