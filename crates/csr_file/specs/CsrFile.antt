@@ -1,0 +1,127 @@
+-- The control and status registers of a hart that has machine mode alone: what each number is, what
+-- a write keeps, and what a trap and MRET do (Unprivileged ISA 20191213, chapters 9 and 10, for the
+-- instructions and the counters; the profile of machine mode is this project's own).
+use Rattle.std.specs.Prelude.{ℕ, ◌+◌, ◌-◌, ◌*◌, ◌/◌, ◌%◌, ◌^◌, ◌==◌, Bool, not, List, [], ◌∷◌, if◌then◌else◌, nat_eq}
+use Rattle.std.specs.List.{list_any}
+use Rattle.csr_file.specs.declared.TheConstants.{MSTATUS, MIE, MTVEC, MSCRATCH, MEPC, MCAUSE, MTVAL, MIP, CYCLE, TIME, INSTRET, MHARTID}
+use Rattle.csr_file.specs.declared.answers.CsrRead.{CsrRead}
+use Rattle.csr_file.specs.declared.answers.CsrRead.TheVariants as read
+use Rattle.csr_file.specs.declared.answers.CsrWrite.{CsrWrite}
+use Rattle.csr_file.specs.declared.answers.CsrWrite.TheVariants as write
+
+-- the registers that hold a value; mip always holds 0
+pub record CsrValues : Type 0 where
+  pub mstatus : ℕ
+  pub mie : ℕ
+  pub mtvec : ℕ
+  pub mscratch : ℕ
+  pub mepc : ℕ
+  pub mcause : ℕ
+  pub mtval : ℕ
+  pub mhartid : ℕ
+
+-- the numbers of the twelve registers
+abbrev pub numbers : List ℕ
+numbers =
+    MSTATUS ∷ MIE ∷ MTVEC ∷ MSCRATCH ∷ MEPC ∷ MCAUSE ∷ MTVAL ∷ MIP
+    ∷ CYCLE ∷ TIME ∷ INSTRET ∷ MHARTID ∷ []
+
+abbrev pub is_csr : ℕ → Bool
+is_csr number = list_any (nat_eq number) numbers
+
+-- bits 11:10 are 11
+abbrev pub is_read_only : ℕ → Bool
+is_read_only number = number / 2 ^ 10 % 4 == 3
+
+-- bit k of a value, as 0 or 1
+abbrev pub bit : ℕ → ℕ → ℕ
+bit k value = value / 2 ^ k % 2
+
+-- the interrupt enable MIE, bit 3; the one before the last trap, MPIE, bit 7; MPP, bits 12:11, is
+-- always 11, machine mode
+abbrev pub mstatus_of : ℕ → ℕ → ℕ
+mstatus_of mie mpie = 3 * 2 ^ 11 + mpie * 2 ^ 7 + mie * 2 ^ 3
+
+-- bits 63:2 of a value
+abbrev pub multiple_of_4 : ℕ → ℕ
+multiple_of_4 value = value - value % 4
+
+-- mstatus keeps MIE and MPIE
+abbrev pub mstatus_kept : ℕ → ℕ
+mstatus_kept value = mstatus_of (bit 3 value) (bit 7 value)
+
+-- mie keeps MSIE, MTIE and MEIE, bits 3, 7 and 11
+abbrev pub mie_kept : ℕ → ℕ
+mie_kept value = bit 11 value * 2 ^ 11 + bit 7 value * 2 ^ 7 + bit 3 value * 2 ^ 3
+
+-- what a write of a register keeps of the value
+abbrev pub kept : ℕ → ℕ → ℕ
+kept number value =
+    if number == MSTATUS then mstatus_kept value
+    else if number == MIE then mie_kept value
+    else if number == MTVEC then multiple_of_4 value
+    else if number == MEPC then multiple_of_4 value
+    else if number == MIP then 0
+    else value
+
+-- what a read answers
+abbrev pub read_of : CsrValues → ℕ → CsrRead
+read_of csrs number =
+    if number == MSTATUS then read.Value csrs.mstatus
+    else if number == MIE then read.Value csrs.mie
+    else if number == MTVEC then read.Value csrs.mtvec
+    else if number == MSCRATCH then read.Value csrs.mscratch
+    else if number == MEPC then read.Value csrs.mepc
+    else if number == MCAUSE then read.Value csrs.mcause
+    else if number == MTVAL then read.Value csrs.mtval
+    else if number == MIP then read.Value 0
+    else if number == CYCLE then read.Cycle
+    else if number == TIME then read.Time
+    else if number == INSTRET then read.Instret
+    else if number == MHARTID then read.Value csrs.mhartid
+    else read.Absent
+
+-- what a write answers
+abbrev pub write_of : ℕ → ℕ → CsrWrite
+write_of number value =
+    if not (is_csr number) then write.Absent
+    else if is_read_only number then write.ReadOnly
+    else write.Done (kept number value)
+
+-- the registers after a write; one that isn't done changes nothing
+abbrev pub written : CsrValues → ℕ → ℕ → CsrValues
+written csrs number value =
+    if number == MSTATUS then record csrs { mstatus = kept MSTATUS value }
+    else if number == MIE then record csrs { mie = kept MIE value }
+    else if number == MTVEC then record csrs { mtvec = kept MTVEC value }
+    else if number == MSCRATCH then record csrs { mscratch = value }
+    else if number == MEPC then record csrs { mepc = kept MEPC value }
+    else if number == MCAUSE then record csrs { mcause = value }
+    else if number == MTVAL then record csrs { mtval = value }
+    else csrs
+
+-- the registers at the start
+abbrev pub csrs_at_start : ℕ → CsrValues
+csrs_at_start hart = record {
+  mstatus = mstatus_of 0 0;
+  mie = 0;
+  mtvec = 0;
+  mscratch = 0;
+  mepc = 0;
+  mcause = 0;
+  mtval = 0;
+  mhartid = hart;
+}
+
+-- a trap at an instruction, with its cause and the value for mtval: MPIE takes MIE, and MIE is 0
+abbrev pub trapped : CsrValues → ℕ → ℕ → ℕ → CsrValues
+trapped csrs cause pc value = record csrs {
+  mstatus = mstatus_of 0 (bit 3 csrs.mstatus);
+  mepc = multiple_of_4 pc;
+  mcause = cause;
+  mtval = value;
+}
+
+-- MRET: MIE takes MPIE, and MPIE is 1
+abbrev pub returned : CsrValues → CsrValues
+returned csrs = record csrs { mstatus = mstatus_of (bit 7 csrs.mstatus) 1 }
