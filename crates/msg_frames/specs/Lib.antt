@@ -1,0 +1,7 @@
+pub mod Fields
+pub mod Kinds
+pub mod Frames
+pub mod Reading
+pub mod Cut
+pub mod Taking
+pub mod Puts

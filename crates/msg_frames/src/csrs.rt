@@ -60,4 +60,18 @@ impl CsrList {
     {
         self.items.get(k).copied()
     }
+
+    /// The same list, without taking memory.
+    pub fn copy(&self) -> CsrList
+        ensures { result ≡ self.now }
+    {
+        let mut list = CsrList::new();
+        for k in 0..self.len() {
+            let Some(item) = self.get(k) else {
+                unreachable!()
+            };
+            list.push(item);
+        }
+        list
+    }
 }

@@ -1,3 +1,5 @@
+ghost use Rattle.std.specs.Prelude.{◌≡◌};
+
 use super::csrs::CsrList;
 use tandem_base::Bytes8;
 
@@ -89,6 +91,45 @@ pub enum Body {
 pub struct Message {
     pub head: Head,
     pub body: Body,
+}
+
+impl Message {
+    /// The same message, without taking memory.
+    pub fn copy(&self) -> Message
+        ensures { result ≡ self.now }
+    {
+        let body = match &self.body {
+            Body::Open(info) => Body::Open(*info),
+            Body::Poke(poke) => Body::Poke(*poke),
+            Body::Read(piece) => Body::Read(*piece),
+            Body::Insert(piece) => Body::Insert(*piece),
+            Body::Write(write) => Body::Write(*write),
+            Body::Bypass(piece) => Body::Bypass(*piece),
+            Body::Retire(retire) => Body::Retire(retire.copy()),
+            Body::Squash => Body::Squash,
+            Body::End => Body::End,
+        };
+        Message {
+            head: self.head,
+            body,
+        }
+    }
+}
+
+impl Retire {
+    /// The same Retire, without taking memory.
+    fn copy(&self) -> Retire
+        ensures { result ≡ self.now }
+    {
+        Retire {
+            pc: self.pc,
+            word: self.word,
+            next: self.next,
+            trap: self.trap,
+            rd: self.rd,
+            csrs: self.csrs.copy(),
+        }
+    }
 }
 
 /// How a frame breaks the grammar.

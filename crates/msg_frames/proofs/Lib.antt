@@ -1,0 +1,14 @@
+pub mod Lists
+pub mod Bytes
+pub mod Steps
+pub mod Ways
+pub mod Found
+pub mod FoundRetire
+pub mod Spelled
+pub mod Again
+pub mod AgainRetire
+pub mod Frames
+pub mod Taking
+pub mod Masked
+pub mod PutsLaws
+pub mod CutLaws

@@ -1,0 +1,236 @@
+-- Which message a frame spells, and else the first fault of its form.
+use Rattle.std.specs.Prelude.{ℕ, zero, suc, ◌==◌, nat_le, nat_lt, ◌&&◌, ◌||◌, not, ◌+◌, ◌*◌, ◌/◌, ◌%◌, Bool, true, false, if◌then◌else◌, List, [], ◌∷◌, length, take, drop, Option, Some, None, Result, Ok, Err}
+use Rattle.msg_frames.specs.declared.csrs.CsrValue.{CsrValue}
+use Rattle.msg_frames.specs.declared.message.Head.{Head}
+use Rattle.msg_frames.specs.declared.message.OpenInfo.{OpenInfo}
+use Rattle.msg_frames.specs.declared.message.Target.{Target}
+use Rattle.msg_frames.specs.declared.message.Target.TheVariants.{Pc, X, Csr}
+use Rattle.msg_frames.specs.declared.message.Poke.{Poke}
+use Rattle.msg_frames.specs.declared.message.Piece.{Piece}
+use Rattle.msg_frames.specs.declared.message.LineWrite.{LineWrite}
+use Rattle.msg_frames.specs.declared.message.Retire.{Retire}
+use Rattle.msg_frames.specs.declared.message.Body.{Body}
+use Rattle.msg_frames.specs.declared.message.Body.TheVariants as body
+use Rattle.msg_frames.specs.declared.message.Message.{Message}
+use Rattle.msg_frames.specs.declared.message.Form.{Form}
+use Rattle.msg_frames.specs.declared.message.Form.TheVariants as form
+use Rattle.msg_frames.specs.declared.message.FrameFault.{FrameFault}
+use Rattle.msg_frames.specs.declared.kinds.Kind.{Kind}
+use Rattle.msg_frames.specs.declared.kinds.Kind.TheVariants as kind
+use Rattle.msg_frames.specs.Fields.{byte_in, u16_in, u32_in, u64_in}
+use Rattle.msg_frames.specs.Frames.{mask_bit}
+use Rattle.msg_frames.specs.Kinds.{kind_coded, has_length}
+
+-- ---- the checks of the fields, in the order of their offsets
+
+-- what a check finds: nothing, or a fault
+abbrev pub Checked : Type 0
+Checked = Result (Unit {0}) FrameFault
+
+-- the fault of this form at this offset
+abbrev pub fault : Form → ℕ → FrameFault
+fault form offset = record { form = form; offset = offset }
+
+-- a check, and where it finds nothing the next
+infixr 5 ◌>>◌
+abbrev pub ◌>>◌ : {A : Type 0} → Checked → Result A FrameFault → Result A FrameFault
+(Ok _) >> next = next
+(Err broken) >> next = Err broken
+
+-- a rule of the field at this offset
+abbrev pub rule : Form → ℕ → Bool → Checked
+rule form at true = Ok tt
+rule form at false = Err (fault form at)
+
+-- these bytes, the first at this offset, have to be 0
+abbrev pub zeros : ℕ → List ℕ → Checked
+zeros at [] = Ok tt
+zeros at (byte ∷ bytes) = if byte == 0 then zeros (at + 1) bytes else Err (fault form.Reserved at)
+
+-- the `count` bytes from this offset on have to be 0
+abbrev pub reserved : ℕ → ℕ → List ℕ → Checked
+reserved at count frame = zeros at (take count (drop at frame))
+
+-- byte k of a line is outside the mask, and not 0
+abbrev pub is_stray : ℕ → ℕ → ℕ → Bool
+is_stray mask k byte = mask_bit mask k == 0 && not (byte == 0)
+
+-- these bytes, the first with number k of its line, have to be 0 outside the mask; byte k is at
+-- offset 36 + k
+abbrev pub unmasked_zeros : ℕ → ℕ → List ℕ → Checked
+unmasked_zeros mask k [] = Ok tt
+unmasked_zeros mask k (byte ∷ bytes) =
+    if is_stray mask k byte then Err (fault form.Reserved (36 + k)) else unmasked_zeros mask (k + 1) bytes
+
+-- the hart and the tag, then the settings
+abbrev pub open_checks : List ℕ → Checked
+open_checks frame =
+    reserved 3 1 frame
+    >> reserved 12 8 frame
+    >> rule form.Field 20 (byte_in 20 frame == 1)
+    >> rule form.Field 21 (nat_le 1 (byte_in 21 frame) && nat_le (byte_in 21 frame) 16)
+    >> rule form.Reserved 22 (nat_lt (byte_in 22 frame) 4)
+    >> reserved 23 1 frame
+    >> reserved 24 4 frame
+
+-- mstatus, mie, mtvec, mscratch, mepc, mcause and mtval
+abbrev pub is_poked_csr : ℕ → Bool
+is_poked_csr number = number == 0x300 || number == 0x304 || number == 0x305 || number == 0x340
+    || number == 0x341 || number == 0x342 || number == 0x343
+
+-- the number and the value that go with each target
+abbrev pub target_checks : ℕ → List ℕ → Checked
+target_checks target frame =
+    if target == 0 then reserved 22 2 frame >> rule form.Field 24 (u64_in 24 frame % 4 == 0)
+    else if target == 1 then rule form.Field 22 (nat_le 1 (u16_in 22 frame) && nat_le (u16_in 22 frame) 31)
+    else rule form.Field 22 (is_poked_csr (u16_in 22 frame))
+
+-- the tag, the target, the zero, and what goes with the target
+abbrev pub poke_checks : List ℕ → Checked
+poke_checks frame =
+    reserved 12 8 frame
+    >> rule form.Field 20 (nat_le (byte_in 20 frame) 2)
+    >> reserved 21 1 frame
+    >> target_checks (byte_in 20 frame) frame
+
+-- as many bytes of memory as the length leaves room for
+abbrev pub piece_checks : List ℕ → Checked
+piece_checks frame = rule form.Field 28 (27 + byte_in 28 frame == u16_in 0 frame)
+
+-- the tag, the line, and the bytes outside the mask
+abbrev pub write_checks : List ℕ → Checked
+write_checks frame =
+    reserved 12 8 frame
+    >> rule form.Field 20 (u64_in 20 frame % 64 == 0)
+    >> unmasked_zeros (u64_in 28 frame) 0 (take 64 (drop 36 frame))
+
+-- bit 0 of the flags: it trapped
+abbrev pub has_trap : List ℕ → Bool
+has_trap frame = byte_in 40 frame % 2 == 1
+
+-- bit 1 of the flags: it wrote a register
+abbrev pub has_rd : List ℕ → Bool
+has_rd frame = byte_in 40 frame / 2 % 2 == 1
+
+-- without a trap the cause is 0
+abbrev pub cause_checks : List ℕ → Checked
+cause_checks frame = if has_trap frame then Ok tt else reserved 41 1 frame
+
+-- the register that is written is x1 to x31, and else 0
+abbrev pub rd_checks : List ℕ → Checked
+rd_checks frame =
+    if has_rd frame then rule form.Field 42 (nat_le 1 (byte_in 42 frame) && nat_le (byte_in 42 frame) 31)
+    else reserved 42 1 frame
+
+-- without a register its value is 0
+abbrev pub value_checks : List ℕ → Checked
+value_checks frame = if has_rd frame then Ok tt else reserved 44 8 frame
+
+-- the flags, the cause, the register, how many CSRs the length leaves room for, and the value
+abbrev pub retire_checks : List ℕ → Checked
+retire_checks frame =
+    rule form.Reserved 40 (nat_lt (byte_in 40 frame) 4)
+    >> cause_checks frame
+    >> rd_checks frame
+    >> rule form.Field 43 (50 + 10 * byte_in 43 frame == u16_in 0 frame)
+    >> value_checks frame
+
+-- the hart and the tag
+abbrev pub end_checks : List ℕ → Checked
+end_checks frame = reserved 3 1 frame >> reserved 12 8 frame
+
+-- the first fault of the fields
+abbrev pub checks : Kind → List ℕ → Checked
+checks kind.Open frame = open_checks frame
+checks kind.Poke frame = poke_checks frame
+checks kind.Read frame = piece_checks frame
+checks kind.Insert frame = piece_checks frame
+checks kind.Write frame = write_checks frame
+checks kind.Bypass frame = piece_checks frame
+checks kind.Retire frame = retire_checks frame
+checks kind.Squash frame = Ok tt
+checks kind.End frame = end_checks frame
+
+-- ---- the values of the fields
+
+-- the hart, the time and the tag
+abbrev pub head_in : List ℕ → Head
+head_in frame = record { hart = byte_in 3 frame; time = u64_in 4 frame; tag = u64_in 12 frame }
+
+-- the settings
+abbrev pub open_in : List ℕ → OpenInfo
+open_in frame = record { version = byte_in 20 frame; harts = byte_in 21 frame; flags = byte_in 22 frame; granule = byte_in 23 frame; skew = u32_in 24 frame }
+
+-- what a Poke sets
+abbrev pub target_in : List ℕ → Target
+target_in frame =
+    if byte_in 20 frame == 0 then Pc
+    else if byte_in 20 frame == 1 then X (byte_in 22 frame)
+    else Csr (u16_in 22 frame)
+
+-- what a Poke sets, and its value
+abbrev pub poke_in : List ℕ → Poke
+poke_in frame = record { target = target_in frame; value = u64_in 24 frame }
+
+-- the address, and all bytes behind the count
+abbrev pub piece_in : List ℕ → Piece
+piece_in frame = record { addr = u64_in 20 frame; bytes = drop 29 frame }
+
+-- the line, the mask and the bytes of the line
+abbrev pub write_in : List ℕ → LineWrite
+write_in frame = record { line = u64_in 20 frame; mask = u64_in 28 frame; bytes = take 64 (drop 36 frame) }
+
+-- so many CSRs of ten bytes each
+abbrev pub csrs_in : ℕ → List ℕ → List CsrValue
+csrs_in zero bytes = []
+csrs_in (suc count) bytes = record { number = u16_in 0 bytes; value = u64_in 2 bytes } ∷ csrs_in count (drop 10 bytes)
+
+-- a Retire, with the trap, the register and the CSRs that it says it has
+abbrev pub retire_in : List ℕ → Retire
+retire_in frame = record {
+  pc = u64_in 20 frame;
+  word = u32_in 28 frame;
+  next = u64_in 32 frame;
+  trap = if has_trap frame then Some (byte_in 41 frame) else None;
+  rd = if has_rd frame then Some (record { number = byte_in 42 frame; value = u64_in 44 frame }) else None;
+  csrs = csrs_in (byte_in 43 frame) (drop 52 frame);
+}
+
+-- the fields of a kind
+abbrev pub body_in : Kind → List ℕ → Body
+body_in kind.Open frame = body.Open (open_in frame)
+body_in kind.Poke frame = body.Poke (poke_in frame)
+body_in kind.Read frame = body.Read (piece_in frame)
+body_in kind.Insert frame = body.Insert (piece_in frame)
+body_in kind.Write frame = body.Write (write_in frame)
+body_in kind.Bypass frame = body.Bypass (piece_in frame)
+body_in kind.Retire frame = body.Retire (retire_in frame)
+body_in kind.Squash frame = body.Squash
+body_in kind.End frame = body.End
+
+-- the head, and the fields of a kind
+abbrev pub message_in : Kind → List ℕ → Message
+message_in kind frame = record { head = head_in frame; body = body_in kind frame }
+
+-- ---- the whole
+
+-- a length that some frame has
+abbrev pub is_length : ℕ → Bool
+is_length length = nat_le 18 length && nat_le length 512
+
+-- as many bytes as its length says
+abbrev pub is_whole : List ℕ → Bool
+is_whole frame = nat_le 2 (length frame) && is_length (u16_in 0 frame) && length frame == u16_in 0 frame + 2
+
+-- what a frame of this kind spells
+unfoldable pub reading_of : Option Kind → List ℕ → Result Message FrameFault
+reading_of None frame = Err (fault form.Kind 2)
+reading_of (Some kind) frame =
+    if has_length kind (u16_in 0 frame) then checks kind frame >> Ok (message_in kind frame)
+    else Err (fault form.Length 0)
+
+-- the message that the bytes spell, or how they break the form of a frame
+unfoldable pub reading : List ℕ → Result Message FrameFault
+reading frame =
+    if is_whole frame then reading_of (kind_coded (byte_in 2 frame)) frame
+    else Err (fault form.Length 0)

@@ -1,0 +1,228 @@
+ghost use Rattle.std.specs.Prelude.{◌≡◌, ◌+◌, ◌<◌, ◌≤◌, length, take, drop, true};
+ghost use Rattle.msg_frames.specs.Reading.{fault, rule, zeros, reserved, is_stray, unmasked_zeros, is_poked_csr, open_checks, poke_checks, target_checks, piece_checks, write_checks, has_trap, has_rd, cause_checks, rd_checks, value_checks, retire_checks, end_checks, checks};
+ghost use Rattle.msg_frames.specs.Kinds.{has_length};
+ghost use Rattle.msg_frames.specs.Fields.{u16_in};
+
+use super::fields::{u16_in, u64_in};
+use super::kinds::Kind;
+use super::message::{Form, FrameFault};
+
+/// The fault of this form at this offset.
+pub fn fault(form: Form, offset: u16) -> FrameFault
+    ensures { result ≡ fault form offset }
+{
+    FrameFault { form, offset }
+}
+
+/// A rule of the field at an offset.
+fn rule(form: Form, at: u16, holds: bool) -> Result<(), FrameFault>
+    ensures { result ≡ rule form at holds }
+{
+    if holds { Ok(()) } else { Err(fault(form, at)) }
+}
+
+/// These bytes, the first at offset `at`, have to be 0.
+fn zeros(at: u16, bytes: &[u8]) -> Result<(), FrameFault>
+    requires { at + length bytes.now ≤ 514 }
+    ensures { result ≡ zeros at bytes.now }
+{
+    for (k, byte) in bytes.iter().enumerate() {
+        if *byte != 0 {
+            return Err(fault(Form::Reserved, at + k as u16));
+        }
+    }
+    Ok(())
+}
+
+/// The `count` bytes from offset `at` on have to be 0.
+fn reserved(at: u16, count: u16, frame: &[u8]) -> Result<(), FrameFault>
+    requires inside { at + count ≤ length frame.now }
+    requires sized { length frame.now ≤ 514 }
+    ensures { result ≡ reserved at count frame.now }
+{
+    zeros(at, &frame[usize::from(at)..usize::from(at + count)])
+}
+
+/// Whether byte `k` of a line is outside the mask, and not 0.
+fn is_stray(mask: u64, k: u8, byte: u8) -> bool
+    requires { k < 64 }
+    ensures { result ≡ is_stray mask k byte }
+{
+    (mask >> k) % 2 == 0 && byte != 0
+}
+
+/// The bytes of a line, the first at offset 36, have to be 0 outside the mask.
+pub fn unmasked_zeros(mask: u64, bytes: &[u8]) -> Result<(), FrameFault>
+    requires { length bytes.now ≤ 64 }
+    ensures { result ≡ unmasked_zeros mask 0 bytes.now }
+{
+    for (k, byte) in bytes.iter().enumerate() {
+        if is_stray(mask, k as u8, *byte) {
+            return Err(fault(Form::Reserved, 36 + k as u16));
+        }
+    }
+    Ok(())
+}
+
+fn open_checks(frame: &[u8]) -> Result<(), FrameFault>
+    requires { length frame.now ≡ 28 }
+    ensures { result ≡ open_checks frame.now }
+{
+    reserved(3, 1, frame)?;
+    reserved(12, 8, frame)?;
+    rule(Form::Field, 20, frame[20] == 1)?;
+    rule(Form::Field, 21, 1 <= frame[21] && frame[21] <= 16)?;
+    rule(Form::Reserved, 22, frame[22] < 4)?;
+    reserved(23, 1, frame)?;
+    reserved(24, 4, frame)
+}
+
+/// The CSRs that a Poke may set.
+pub fn is_poked_csr(number: u16) -> bool
+    ensures { result ≡ is_poked_csr number }
+{
+    matches!(
+        number,
+        0x300 | 0x304 | 0x305 | 0x340 | 0x341 | 0x342 | 0x343
+    )
+}
+
+fn target_checks(target: u8, frame: &[u8]) -> Result<(), FrameFault>
+    requires { length frame.now ≡ 32 }
+    ensures { result ≡ target_checks target frame.now }
+{
+    match target {
+        0 => {
+            reserved(22, 2, frame)?;
+            rule(Form::Field, 24, u64_in(24, frame) % 4 == 0)
+        }
+        1 => {
+            let number = u16_in(22, frame);
+            rule(Form::Field, 22, 1 <= number && number <= 31)
+        }
+        _ => rule(Form::Field, 22, is_poked_csr(u16_in(22, frame))),
+    }
+}
+
+fn poke_checks(frame: &[u8]) -> Result<(), FrameFault>
+    requires { length frame.now ≡ 32 }
+    ensures { result ≡ poke_checks frame.now }
+{
+    reserved(12, 8, frame)?;
+    rule(Form::Field, 20, frame[20] <= 2)?;
+    reserved(21, 1, frame)?;
+    target_checks(frame[20], frame)
+}
+
+fn piece_checks(frame: &[u8]) -> Result<(), FrameFault>
+    requires { 30 ≤ length frame.now }
+    ensures { result ≡ piece_checks frame.now }
+{
+    rule(
+        Form::Field,
+        28,
+        27 + u16::from(frame[28]) == u16_in(0, frame),
+    )
+}
+
+fn write_checks(frame: &[u8]) -> Result<(), FrameFault>
+    requires { length frame.now ≡ 100 }
+    ensures { result ≡ write_checks frame.now }
+{
+    reserved(12, 8, frame)?;
+    rule(Form::Field, 20, u64_in(20, frame) % 64 == 0)?;
+    unmasked_zeros(u64_in(28, frame), &frame[36..100])
+}
+
+/// Whether a Retire says that it trapped.
+pub fn has_trap(frame: &[u8]) -> bool
+    requires { 52 ≤ length frame.now }
+    ensures { result ≡ has_trap frame.now }
+{
+    frame[40] % 2 == 1
+}
+
+/// Whether a Retire says that it wrote a register.
+pub fn has_rd(frame: &[u8]) -> bool
+    requires { 52 ≤ length frame.now }
+    ensures { result ≡ has_rd frame.now }
+{
+    frame[40] / 2 % 2 == 1
+}
+
+fn cause_checks(frame: &[u8]) -> Result<(), FrameFault>
+    requires low { 52 ≤ length frame.now }
+    requires high { length frame.now ≤ 514 }
+    ensures { result ≡ cause_checks frame.now }
+{
+    if has_trap(frame) {
+        Ok(())
+    } else {
+        reserved(41, 1, frame)
+    }
+}
+
+fn rd_checks(frame: &[u8]) -> Result<(), FrameFault>
+    requires low { 52 ≤ length frame.now }
+    requires high { length frame.now ≤ 514 }
+    ensures { result ≡ rd_checks frame.now }
+{
+    if has_rd(frame) {
+        rule(Form::Field, 42, 1 <= frame[42] && frame[42] <= 31)
+    } else {
+        reserved(42, 1, frame)
+    }
+}
+
+fn value_checks(frame: &[u8]) -> Result<(), FrameFault>
+    requires low { 52 ≤ length frame.now }
+    requires high { length frame.now ≤ 514 }
+    ensures { result ≡ value_checks frame.now }
+{
+    if has_rd(frame) {
+        Ok(())
+    } else {
+        reserved(44, 8, frame)
+    }
+}
+
+fn retire_checks(frame: &[u8]) -> Result<(), FrameFault>
+    requires low { 52 ≤ length frame.now }
+    requires high { length frame.now ≤ 514 }
+    ensures { result ≡ retire_checks frame.now }
+{
+    rule(Form::Reserved, 40, frame[40] < 4)?;
+    cause_checks(frame)?;
+    rd_checks(frame)?;
+    rule(
+        Form::Field,
+        43,
+        50 + 10 * u16::from(frame[43]) == u16_in(0, frame),
+    )?;
+    value_checks(frame)
+}
+
+fn end_checks(frame: &[u8]) -> Result<(), FrameFault>
+    requires { length frame.now ≡ 20 }
+    ensures { result ≡ end_checks frame.now }
+{
+    reserved(3, 1, frame)?;
+    reserved(12, 8, frame)
+}
+
+/// The first fault of the fields.
+pub fn checks(kind: Kind, frame: &[u8]) -> Result<(), FrameFault>
+    requires whole { length frame.now ≡ u16_in 0 frame.now + 2 }
+    requires kind { has_length kind (u16_in 0 frame.now) ≡ true }
+    ensures { result ≡ checks kind frame.now }
+{
+    match kind {
+        Kind::Open => open_checks(frame),
+        Kind::Poke => poke_checks(frame),
+        Kind::Read | Kind::Insert | Kind::Bypass => piece_checks(frame),
+        Kind::Write => write_checks(frame),
+        Kind::Retire => retire_checks(frame),
+        Kind::Squash => Ok(()),
+        Kind::End => end_checks(frame),
+    }
+}
