@@ -1,0 +1,122 @@
+-- ELF64 files: the image that one describes, or its first fault.
+use Rattle.std.specs.Prelude.{ℕ, ◌+◌, ◌*◌, ◌%◌, ◌^◌, ◌==◌, Bool, not, ◌&&◌, ◌||◌, nat_eq, nat_lt, if◌then◌else◌, List, [], ◌∷◌, map, length, sum_by, take, drop, slice_index, Option, None, Some, Result, Ok}
+use Rattle.std.specs.List.{filter, find, range_with_len, starts_with}
+use Rattle.std.specs.Option.{option_map, option_or}
+use Rattle.std.specs.Int.{w16, w32, w64, from_le_bytes}
+use Rattle.elf_image.specs.declared.fault.ImageFault.{ImageFault}
+use Rattle.elf_image.specs.declared.fault.ImageFault.TheVariants as fault
+use Rattle.elf_image.specs.declared.program.ProgramHeader.{ProgramHeader}
+use Rattle.elf_image.specs.declared.ram.Ram.{Ram}
+use Rattle.elf_image.specs.Images.{Segment, ImageOf}
+use Rattle.elf_image.specs.Rams.{span_of}
+use Rattle.elf_image.specs.Faults.{refuse, file_fault, limit_fault}
+
+-- the little-endian numbers of 2, 4 and 8 bytes at an offset
+abbrev pub u16_at : ℕ → List ℕ → ℕ
+u16_at offset bytes = from_le_bytes w16 (take 2 (drop offset bytes))
+
+abbrev pub u32_at : ℕ → List ℕ → ℕ
+u32_at offset bytes = from_le_bytes w32 (take 4 (drop offset bytes))
+
+abbrev pub u64_at : ℕ → List ℕ → ℕ
+u64_at offset bytes = from_le_bytes w64 (take 8 (drop offset bytes))
+
+-- the file header: e_entry, e_phoff, e_phentsize and e_phnum
+abbrev pub entry_of : List ℕ → ℕ
+entry_of bytes = u64_at 24 bytes
+
+abbrev pub table_offset : List ℕ → ℕ
+table_offset bytes = u64_at 32 bytes
+
+abbrev pub header_count : List ℕ → ℕ
+header_count bytes = u16_at 56 bytes
+
+-- 7F and "ELF"
+abbrev pub has_magic : List ℕ → Bool
+has_magic bytes = starts_with nat_eq bytes (127 ∷ 69 ∷ 76 ∷ 70 ∷ [])
+
+-- ELFCLASS64, ELFDATA2LSB and EV_CURRENT
+abbrev pub has_class : List ℕ → Bool
+has_class bytes = (slice_index bytes 4 == 2) && (slice_index bytes 5 == 1) && (slice_index bytes 6 == 1)
+
+-- the entries of the table have 56 bytes; a table without entries may say anything
+abbrev pub has_entry_size : List ℕ → Bool
+has_entry_size bytes = (header_count bytes == 0) || (u16_at 54 bytes == 56)
+
+-- the table lies within the file; one without entries lies anywhere
+abbrev pub has_table : List ℕ → Bool
+has_table bytes =
+    (header_count bytes == 0) || not (nat_lt (length bytes) (table_offset bytes + 56 * header_count bytes))
+
+-- the first fault of the file header: ET_EXEC is 2, and RISC-V is 243
+abbrev pub header_fault : List ℕ → Option ImageFault
+header_fault bytes =
+    if nat_lt (length bytes) 64 || not (has_magic bytes) then Some fault.NotElf
+    else if not (has_class bytes) then Some fault.Class
+    else if not (u16_at 16 bytes == 2) then Some fault.Kind
+    else if not (u16_at 18 bytes == 243) then Some fault.Machine
+    else if not (entry_of bytes % 4 == 0) then Some (fault.Headers 24)
+    else if not (has_entry_size bytes) then Some (fault.Headers 54)
+    else if not (has_table bytes) then Some (fault.Headers 32)
+    else None
+
+-- the program header at a place of the table: p_type, p_offset, p_paddr, p_filesz and p_memsz
+abbrev pub program_header : List ℕ → ℕ → ProgramHeader
+program_header bytes index =
+    let at = table_offset bytes + 56 * index in
+    record {
+      index = index;
+      kind = u32_at at bytes;
+      offset = u64_at (at + 8) bytes;
+      address = u64_at (at + 24) bytes;
+      file_size = u64_at (at + 32) bytes;
+      size = u64_at (at + 40) bytes;
+    }
+
+-- a segment to be loaded, PT_LOAD, that takes memory
+abbrev pub is_load : ProgramHeader → Bool
+is_load header = (header.kind == 1) && nat_lt 0 header.size
+
+-- those of the file, in the table's order
+abbrev pub loads : List ℕ → List ProgramHeader
+loads bytes = filter is_load (map (program_header bytes) (range_with_len 0 (header_count bytes)))
+
+-- file bytes past the file's end, more of them than the segment has, or addresses past 2^64;
+-- an empty run of file bytes lies anywhere
+abbrev pub is_misplaced : ℕ → ProgramHeader → Bool
+is_misplaced file_len header =
+    (nat_lt 0 header.file_size && nat_lt file_len (header.offset + header.file_size))
+    || nat_lt header.size header.file_size
+    || nat_lt (2 ^ 64) (header.address + header.size)
+
+-- the first segment that is misplaced
+abbrev pub segment_fault : ℕ → List ProgramHeader → Option ImageFault
+segment_fault file_len loads = option_map (λ h. fault.Segment h.index) (find (is_misplaced file_len) loads)
+
+-- two ranges share an address
+abbrev pub meets : ProgramHeader → ProgramHeader → Bool
+meets a b = nat_lt a.address (b.address + b.size) && nat_lt b.address (a.address + a.size)
+
+-- the first segment that shares an address with a later one, and the first such later one
+abbrev pub overlap_fault : List ProgramHeader → Option ImageFault
+overlap_fault [] = None
+overlap_fault (a ∷ rest) =
+    option_or (option_map (λ b. fault.Overlap a.index b.index) (find (meets a) rest)) (overlap_fault rest)
+
+-- the segment that a program header loads
+abbrev pub loaded : List ℕ → ProgramHeader → Segment
+loaded bytes header =
+    record { base = header.address; bytes = take header.file_size (drop header.offset bytes); size = header.size }
+
+-- the segments to be loaded from these bytes, and RAM: the image, or the first fault
+abbrev pub loads_image : List ℕ → List ProgramHeader → List Ram → Result ImageOf ImageFault
+loads_image bytes headers rams =
+    refuse (segment_fault (length bytes) headers)
+    (refuse (limit_fault (length headers + length rams) (sum_by (λ h. h.size) headers + sum_by (λ r. r.size) rams))
+    (refuse (overlap_fault headers)
+    (Ok (record { entry = entry_of bytes; segments = map (loaded bytes) headers; rams = map span_of rams }))))
+
+-- an ELF64 file and RAM: the image, or the first fault
+abbrev pub elf_of : List ℕ → List Ram → Result ImageOf ImageFault
+elf_of bytes rams =
+    refuse (file_fault bytes) (refuse (header_fault bytes) (loads_image bytes (loads bytes) rams))

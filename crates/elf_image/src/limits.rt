@@ -1,0 +1,52 @@
+ghost use Rattle.std.specs.Prelude.{◌≡◌, ◌^◌, ◌<◌, ◌≤◌, OnOk, length, sum_by};
+ghost use Rattle.std.specs.Result.{result_err};
+ghost use Rattle.elf_image.specs.Faults.{file_fault, limit_fault};
+
+use crate::fault::{ImageFault, TooLarge};
+use crate::ram::Ram;
+
+/// The most bytes that an image file may have.
+const FILE_MOST: usize = 1 << 28;
+
+/// The most segments and RAM ranges that an image may have.
+const RANGES_MOST: u64 = 64;
+
+/// The most bytes that they may have together.
+const SIZE_MOST: u128 = 1 << 40;
+
+/// The fault of a file that is too long.
+pub fn check_file(bytes: &[u8]) -> Result<(), ImageFault>
+    ensures fault { result_err result ≡ file_fault bytes.now }
+    ensures short { OnOk result (length bytes.now ≤ 268435456) }
+{
+    if bytes.len() > FILE_MOST {
+        let read = FILE_MOST as u64 + 1;
+        return Err(ImageFault::TooLarge(TooLarge::File(read)));
+    }
+    Ok(())
+}
+
+/// The fault of too many ranges, or of too many bytes in them.
+pub fn check_limits(count: u64, size: u128) -> Result<(), ImageFault>
+    ensures { result_err result ≡ limit_fault count size }
+{
+    if count > RANGES_MOST {
+        return Err(ImageFault::TooLarge(TooLarge::Ranges(count)));
+    }
+    if size > SIZE_MOST {
+        return Err(ImageFault::TooLarge(TooLarge::Sum(size)));
+    }
+    Ok(())
+}
+
+/// How many bytes RAM has, counted once for each range.
+pub fn ram_size(rams: &[Ram]) -> u128
+    ensures value { result ≡ sum_by (λ ram. ram.size) rams.now }
+    ensures bound { result < 2 ^ 127 }
+{
+    let mut size = 0u128;
+    for ram in rams {
+        size += u128::from(ram.size);
+    }
+    size
+}
