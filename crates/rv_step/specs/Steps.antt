@@ -1,0 +1,188 @@
+-- What each instruction does to a hart and reports (Unprivileged ISA 20191213; MRET and WFI: Volume
+-- II, sections 3.2.2 and 3.2.3; the profile of traps is this project's own).
+use Rattle.std.specs.Prelude.{ℕ, ◌≡◌, ◌+◌, ◌%◌, ◌^◌, ◌==◌, List, [], ◌∷◌, length, Option, Some, None, MatchOption, if◌then◌else◌}
+use Rattle.std.specs.Int.{w64, cast_unsigned}
+use Rattle.tandem_base.specs.Bytes.{number_of}
+use Rattle.tandem_base.specs.Signs.{sext_of}
+use Rattle.csr_file.specs.CsrFile.{kept, written, trapped, returned}
+use Rattle.csr_file.specs.declared.TheConstants.{MSTATUS, MEPC, MCAUSE, MTVAL}
+use Rattle.msg_frames.specs.declared.csrs.CsrValue.{CsrValue}
+use Rattle.msg_frames.specs.declared.message.RdValue.{RdValue}
+use Rattle.rv_decode.specs.declared.operations.CsrOp.{CsrOp}
+use Rattle.rv_decode.specs.declared.instruction.Insn.{Insn}
+use Rattle.rv_decode.specs.declared.instruction.Insn.TheVariants.{Lui, Auipc, Jal, Jalr, Branch, Load, Store, AluImm, Alu, Fence, Ecall, Ebreak, Mret, Wfi, Csr, Lr, Sc, Amo}
+use Rattle.rv_step.specs.declared.causes.TheConstants.{BREAKPOINT, ENVIRONMENT_CALL}
+use Rattle.rv_step.specs.declared.effect.Effect.{Effect}
+use Rattle.rv_step.specs.declared.effect.Outside.{Outside}
+use Rattle.rv_step.specs.Harts.{HartState, x_of, with_x, plus, next_of}
+use Rattle.rv_step.specs.Integers.{alu_of, alu_imm_of, is_taken, without_low_bit}
+use Rattle.rv_step.specs.Memory.{store_size, atomic_size, atomic_width, bytes_of, loaded, low_bytes, amo_of}
+use Rattle.rv_step.specs.CsrUse.{writes_csr, operand_of, old_csr, new_csr}
+
+-- a hart after an instruction, and what the instruction reports
+pub record Done : Type 0 where
+  pub hart : HartState
+  pub effect : Effect
+
+-- the register that is written: a write to x0 is none
+abbrev pub rd_written : ℕ → ℕ → Option RdValue
+rd_written rd value = if rd == 0 then None else Some (record { number = rd; value = value })
+
+abbrev pub csr_value : ℕ → ℕ → CsrValue
+csr_value number value = record { number = number; value = value }
+
+-- the count of retired instructions has 64 bits
+abbrev pub one_more : ℕ → ℕ
+one_more retired = (retired + 1) % 2 ^ 64
+
+-- goes on at an address
+abbrev pub goes : HartState → ℕ → Done
+goes hart next = record {
+  hart = record hart { pc = next; retired = one_more hart.retired };
+  effect = record { next = next; rd = None; csrs = []; store = None; trap = None };
+}
+
+-- writes a value to rd, and goes on at an address
+abbrev pub writes : HartState → ℕ → ℕ → ℕ → Done
+writes hart next rd value = record {
+  hart = record hart {
+    pc = next;
+    registers = with_x hart.registers rd value;
+    retired = one_more hart.retired;
+  };
+  effect = record { next = next; rd = rd_written rd value; csrs = []; store = None; trap = None };
+}
+
+-- the same, and stores bytes at an address
+abbrev pub stores : Done → ℕ → List ℕ → Done
+stores done addr bytes =
+    record done { effect = record done.effect { store = Some (record { addr = addr; bytes = bytes }) } }
+
+-- the same, and writes a CSR
+abbrev pub sets_csr : Done → ℕ → ℕ → Done
+sets_csr done number value = record {
+  hart = record done.hart { csrs = written done.hart.csrs number value };
+  effect = record done.effect { csrs = csr_value number (kept number value) ∷ [] };
+}
+
+-- takes a trap: it retires nothing, and reports the four CSRs that the trap wrote
+abbrev pub traps : HartState → ℕ → ℕ → Done
+traps hart cause value =
+    let csrs = trapped hart.csrs cause hart.pc value in record {
+      hart = record hart { pc = csrs.mtvec; csrs = csrs };
+      effect = record {
+        next = csrs.mtvec;
+        rd = None;
+        csrs = csr_value MSTATUS csrs.mstatus ∷ csr_value MEPC csrs.mepc ∷ csr_value MCAUSE csrs.mcause
+            ∷ csr_value MTVAL csrs.mtval ∷ [];
+        store = None;
+        trap = Some cause;
+      };
+    }
+
+-- returns from a trap
+abbrev pub returns : HartState → Done
+returns hart =
+    let csrs = returned hart.csrs in record {
+      hart = record hart { pc = csrs.mepc; csrs = csrs; retired = one_more hart.retired };
+      effect = record {
+        next = csrs.mepc;
+        rd = None;
+        csrs = csr_value MSTATUS csrs.mstatus ∷ [];
+        store = None;
+        trap = None;
+      };
+    }
+
+-- reads a CSR into rd, and then writes it where the instruction does
+abbrev pub csr_done : HartState → ℕ → CsrOp → ℕ → ℕ → ℕ → Done
+csr_done hart reported op rd source number =
+    let old = old_csr hart number reported in
+    let done = writes hart (next_of hart) rd old in
+    if writes_csr op source then sets_csr done number (new_csr op old (operand_of hart op source)) else done
+
+-- the number that was loaded
+abbrev pub number_loaded : Outside → ℕ
+number_loaded outside = number_of (bytes_of outside.load)
+
+-- what an instruction does that raises no trap of its own beside ECALL and EBREAK
+abbrev pub executed : HartState → Outside → Insn → Done
+-- section 2.4: LUI and AUIPC
+executed hart outside (Lui rd imm) = writes hart (next_of hart) rd (cast_unsigned w64 imm)
+executed hart outside (Auipc rd imm) = writes hart (next_of hart) rd (plus hart.pc imm)
+-- section 2.5: jumps and branches; JALR reads rs1 before it writes rd
+executed hart outside (Jal rd imm) = writes hart (plus hart.pc imm) rd (next_of hart)
+executed hart outside (Jalr rd rs1 imm) =
+    writes hart (without_low_bit (plus (x_of hart rs1) imm)) rd (next_of hart)
+executed hart outside (Branch op rs1 rs2 imm) =
+    goes hart (if is_taken op (x_of hart rs1) (x_of hart rs2) then plus hart.pc imm else next_of hart)
+-- section 2.6: loads and stores
+executed hart outside (Load op rd rs1 imm) =
+    writes hart (next_of hart) rd (loaded op (number_loaded outside))
+executed hart outside (Store op rs1 rs2 imm) =
+    stores (goes hart (next_of hart)) (plus (x_of hart rs1) imm) (low_bytes (x_of hart rs2) (store_size op))
+-- sections 2.4, 5.2, 7.1 and 7.2: integer operations
+executed hart outside (AluImm op rd rs1 imm) =
+    writes hart (next_of hart) rd (alu_imm_of op (x_of hart rs1) imm)
+executed hart outside (Alu op rd rs1 rs2) =
+    writes hart (next_of hart) rd (alu_of op (x_of hart rs1) (x_of hart rs2))
+-- section 2.7: a FENCE does nothing to registers
+executed hart outside (Fence fm pred succ rd rs1) = goes hart (next_of hart)
+-- section 2.8: ECALL and EBREAK
+executed hart outside Ecall = traps hart ENVIRONMENT_CALL 0
+executed hart outside Ebreak = traps hart BREAKPOINT 0
+-- Volume II: MRET and WFI
+executed hart outside Mret = returns hart
+executed hart outside Wfi = goes hart (next_of hart)
+-- section 9.1: CSR instructions read the old value before they write
+executed hart outside (Csr op rd source number) = csr_done hart outside.reported op rd source number
+-- section 8.2: LR and SC; a failed SC writes the reported value to rd
+executed hart outside (Lr wide aq rl rd rs1) =
+    writes hart (next_of hart) rd (sext_of (number_loaded outside) (atomic_width wide))
+executed hart outside (Sc wide aq rl rd rs1 rs2) =
+    if outside.stored
+    then stores (writes hart (next_of hart) rd 0) (x_of hart rs1) (low_bytes (x_of hart rs2) (atomic_size wide))
+    else writes hart (next_of hart) rd outside.reported
+-- section 8.4: atomic operations work on the loaded number and the low bits of rs2
+executed hart outside (Amo op wide aq rl rd rs1 rs2) =
+    let width = atomic_width wide in
+    let old = number_loaded outside % 2 ^ width in
+    stores (writes hart (next_of hart) rd (sext_of old width)) (x_of hart rs1)
+    (low_bytes (amo_of op width old (x_of hart rs2 % 2 ^ width)) (atomic_size wide))
+
+-- what an instruction is to do: a trap with its cause and its mtval; no access; the read of a
+-- counter whose value is reported; or an access to some bytes from an address on
+pub data Doing : Type 0 where
+  trap : (cause value : ℕ) → Doing
+  plain : Insn → Doing
+  counter : Insn → Doing
+  load : Insn → (addr len : ℕ) → Doing
+  store : Insn → (addr len : ℕ) → Doing
+  lr : Insn → (addr len : ℕ) → Doing
+  sc : Insn → (addr len : ℕ) → Doing
+  amo : Insn → (addr len : ℕ) → Doing
+
+-- what is done by a plan
+abbrev pub finished : HartState → Outside → Doing → Done
+finished hart outside (trap cause value) = traps hart cause value
+finished hart outside (plain insn) = executed hart outside insn
+finished hart outside (counter insn) = executed hart outside insn
+finished hart outside (load insn addr len) = executed hart outside insn
+finished hart outside (store insn addr len) = executed hart outside insn
+finished hart outside (lr insn addr len) = executed hart outside insn
+finished hart outside (sc insn addr len) = executed hart outside insn
+finished hart outside (amo insn addr len) = executed hart outside insn
+
+-- the bytes that a load, LR or AMO reads are there, as many as it reads
+abbrev pub HasLoaded : Outside → ℕ → Type 0
+HasLoaded outside len = MatchOption outside.load ⊥ (λ bytes. length bytes ≡ len)
+
+abbrev pub IsLoaded : Outside → Doing → Type 0
+IsLoaded outside (trap cause value) = Unit {0}
+IsLoaded outside (plain insn) = Unit {0}
+IsLoaded outside (counter insn) = Unit {0}
+IsLoaded outside (load insn addr len) = HasLoaded outside len
+IsLoaded outside (store insn addr len) = Unit {0}
+IsLoaded outside (lr insn addr len) = HasLoaded outside len
+IsLoaded outside (sc insn addr len) = Unit {0}
+IsLoaded outside (amo insn addr len) = HasLoaded outside len

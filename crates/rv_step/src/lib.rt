@@ -1,0 +1,21 @@
+//! The step of a hart: what the instruction at its pc is to do, and what it does.
+//!
+//! `Hart::plan` fetches, decodes and finds the trap or the access; `Hart::finish` does what the
+//! plan says, with the values that come from outside.
+#![tactic(auto)]
+
+mod accesses;
+pub mod causes;
+mod csr_use;
+mod effect;
+mod hart;
+mod integers;
+mod memory;
+mod plan;
+
+pub use effect::{Effect, Outside};
+pub use hart::Hart;
+pub use plan::{Config, Plan, What};
+
+#[cfg(test)]
+mod tests;

@@ -1,0 +1,168 @@
+//! The values that loads, stores and atomic instructions read and write.
+
+ghost use Rattle.std.specs.Prelude.{◌≡◌, ◌<◌, ◌≤◌, ◌^◌, ◌%◌, MatchResult, Some, None};
+ghost use Rattle.rv_step.specs.Memory.{load_size, store_size, atomic_size, atomic_width, loaded, low_bytes, amo_of};
+ghost use Rattle.rv_step.specs.Plans.{access_fault, has_bytes};
+ghost use Rattle.tandem_base.specs.Signs.{sext_of};
+
+use crate::integers::{is_less, is_less32, low};
+use elf_image::Image;
+use rv_decode::{AmoOp, LoadOp, StoreOp};
+use tandem_base::{Bytes8, Extent, sext};
+
+/// How many bytes a load reads.
+pub fn bytes_loaded(op: LoadOp) -> u8
+    ensures value { result ≡ load_size op }
+    ensures sized { (1 ≤ result) × (result ≤ 8) }
+{
+    match op {
+        LoadOp::Lb | LoadOp::Lbu => 1,
+        LoadOp::Lh | LoadOp::Lhu => 2,
+        LoadOp::Lw | LoadOp::Lwu => 4,
+        LoadOp::Ld => 8,
+    }
+}
+
+/// How many bytes a store writes.
+pub fn bytes_stored(op: StoreOp) -> u8
+    ensures value { result ≡ store_size op }
+    ensures sized { (1 ≤ result) × (result ≤ 8) }
+{
+    match op {
+        StoreOp::Sb => 1,
+        StoreOp::Sh => 2,
+        StoreOp::Sw => 4,
+        StoreOp::Sd => 8,
+    }
+}
+
+/// How many bytes an atomic instruction works on.
+pub fn bytes_atomic(wide: bool) -> u8
+    ensures value { result ≡ atomic_size wide }
+    ensures sized { (1 ≤ result) × (result ≤ 8) }
+{
+    if wide { 8 } else { 4 }
+}
+
+/// What a load gives of the number that it reads.
+pub fn load_value(op: LoadOp, number: u64) -> u64
+    ensures { result ≡ loaded op number }
+{
+    match op {
+        LoadOp::Lb => sext(number, 8),
+        LoadOp::Lh => sext(number, 16),
+        LoadOp::Lw => sext(number, 32),
+        LoadOp::Ld | LoadOp::Lbu | LoadOp::Lhu | LoadOp::Lwu => number,
+    }
+}
+
+/// The low `len` bytes of a value.
+pub fn stored_bytes(value: u64, len: u8) -> Bytes8
+    requires { (1 ≤ len) × (len ≤ 8) }
+    ensures { result ≡ low_bytes value len }
+{
+    match Bytes8::new(&value.to_le_bytes()[..len as usize]) {
+        Some(bytes) => bytes,
+        None => unreachable!(),
+    }
+}
+
+/// What an atomic operation on 64 bits stores, of the loaded number and of rs2.
+fn amo64(op: AmoOp, a: u64, b: u64) -> u64
+    ensures { result ≡ amo_of op 64 a b }
+{
+    match op {
+        AmoOp::Swap => b,
+        AmoOp::Add => a.wrapping_add(b),
+        AmoOp::Xor => a ^ b,
+        AmoOp::And => a & b,
+        AmoOp::Or => a | b,
+        AmoOp::Min => if is_less(b, a) { b } else { a },
+        AmoOp::Max => if is_less(a, b) { b } else { a },
+        AmoOp::Minu => if b < a { b } else { a },
+        AmoOp::Maxu => if a < b { b } else { a },
+    }
+}
+
+/// The same on 32 bits.
+fn amo32(op: AmoOp, a: u32, b: u32) -> u32
+    ensures { result ≡ amo_of op 32 a b }
+{
+    match op {
+        AmoOp::Swap => b,
+        AmoOp::Add => a.wrapping_add(b),
+        AmoOp::Xor => a ^ b,
+        AmoOp::And => a & b,
+        AmoOp::Or => a | b,
+        AmoOp::Min => if is_less32(b, a) { b } else { a },
+        AmoOp::Max => if is_less32(a, b) { b } else { a },
+        AmoOp::Minu => if b < a { b } else { a },
+        AmoOp::Maxu => if a < b { b } else { a },
+    }
+}
+
+/// What LR gives of the number that it reads: the W form sign-extends.
+pub fn lr_value(wide: bool, number: u64) -> u64
+    ensures { result ≡ sext_of number (atomic_width wide) }
+{
+    if wide { number } else { sext(number, 32) }
+}
+
+/// What an atomic operation gives of the number that it reads.
+pub fn amo_value(wide: bool, number: u64) -> u64
+    ensures { result ≡ sext_of (number % 2 ^ atomic_width wide) (atomic_width wide) }
+{
+    if wide { number } else { sext(number, 32) }
+}
+
+/// What an atomic operation stores, of the number that it reads and of rs2.
+pub fn amo_result(op: AmoOp, wide: bool, number: u64, source: u64) -> u64
+    ensures { result ≡ amo_of op (atomic_width wide) (number % 2 ^ atomic_width wide) (source % 2 ^ atomic_width wide) }
+{
+    if wide {
+        amo64(op, number, source)
+    } else {
+        u64::from(amo32(op, low(number), low(source)))
+    }
+}
+
+/// The causes that an access may raise.
+#[derive(Clone, Copy, Debug, PartialEq, Eq)]
+pub struct Causes {
+    pub misaligned: u8,
+    pub fault: u8,
+}
+
+/// The bytes that an access covers, or the cause that it raises: `misaligned` where it must be
+/// aligned and isn't, and then `fault` where a byte is outside the image.
+pub fn access(
+    image: &Image,
+    must_align: bool,
+    causes: Causes,
+    addr: u64,
+    len: u8,
+) -> Result<Extent, u8>
+    requires { (1 ≤ len) × (len ≤ 8) }
+    ensures { MatchResult result
+        (λ extent. (access_fault image.now must_align causes.misaligned causes.fault addr len ≡ None) × (extent.addr ≡ addr) × (extent.len ≡ len))
+        (λ cause. access_fault image.now must_align causes.misaligned causes.fault addr len ≡ Some cause) }
+{
+    if must_align && addr % u64::from(len) != 0 {
+        return Err(causes.misaligned);
+    }
+    let Some(extent) = Extent::new(addr, len) else {
+        return Err(causes.fault);
+    };
+    if holds(image, extent) {
+        Ok(extent)
+    } else {
+        Err(causes.fault)
+    }
+}
+
+/// Whether the image has every byte of the extent.
+fn holds(image: &Image, extent: Extent) -> bool
+    ensures { result ≡ has_bytes image.now extent.addr extent.len }
+{
+    image.holds(&extent)
+}
