@@ -1,0 +1,120 @@
+-- The lines that tell a verdict, as bytes. A line ends with one newline, and one space separates
+-- its parts.
+use Rattle.std.specs.Prelude.{ℕ, List, [], ◌∷◌, ◌++◌, false, codes, Option, None, Some}
+use Rattle.std.specs.Fmt.{decimal, digits}
+use Rattle.msg_frames.specs.declared.csrs.CsrValue.{CsrValue}
+use Rattle.msg_frames.specs.declared.message.Form.{Form}
+use Rattle.msg_frames.specs.declared.message.Form.TheVariants.{Length, Kind, Reserved, Field}
+use Rattle.msg_frames.specs.declared.message.Head.{Head}
+use Rattle.msg_frames.specs.declared.message.RdValue.{RdValue}
+use Rattle.verdict_report.specs.Faults.{number_of, name_of}
+use Rattle.verdict_report.specs.declared.fault.Fault.{Fault}
+use Rattle.verdict_report.specs.declared.fault.Fault.TheVariants.{BadFrame, Truncated, BadOpen, BadHart, TimeBack, LatePoke, TagOrder, Pc, Word, Trap, NextPc, Rd, Csr, Unbuilt}
+use Rattle.verdict_report.specs.declared.fault.RdWant.{RdWant}
+use Rattle.verdict_report.specs.declared.fault.RdWant.TheVariants.{Absent, Value, Nonzero, AtLeast}
+use Rattle.verdict_report.specs.declared.verdict.Limit.{Limit}
+use Rattle.verdict_report.specs.declared.verdict.Limit.TheVariants.{Reads, Stores, Kept, Messages}
+use Rattle.verdict_report.specs.declared.verdict.Report.{Report}
+use Rattle.verdict_report.specs.declared.verdict.Verdict.{Verdict}
+use Rattle.verdict_report.specs.declared.verdict.Verdict.TheVariants.{Accept, Reject, Undecided}
+
+-- `0x`, and the number in base 16 with lower-case digits and no leading zeros
+abbrev pub hexadecimal : ℕ → List ℕ
+hexadecimal n = codes "0x" ++ digits 16 false n
+
+-- the end of a line
+abbrev pub newline : List ℕ
+newline = 10 ∷ []
+
+-- how a frame breaks the grammar
+abbrev pub form_text : Form → List ℕ
+form_text Length = codes "Length"
+form_text Kind = codes "Kind"
+form_text Reserved = codes "Reserved"
+form_text Field = codes "Field"
+
+-- the cause of a trap in decimal, or `-` for none
+abbrev pub cause_text : Option ℕ → List ℕ
+cause_text None = codes "-"
+cause_text (Some cause) = decimal cause
+
+-- `xN:` of register N
+abbrev pub register_text : ℕ → List ℕ
+register_text number = codes "x" ++ decimal number ++ codes ":"
+
+-- a register with its value, or `-` for none
+abbrev pub rd_text : Option RdValue → List ℕ
+rd_text None = codes "-"
+rd_text (Some rd) = register_text rd.number ++ hexadecimal rd.value
+
+-- the register and the values that are wanted of it
+abbrev pub rd_want_text : RdWant → List ℕ
+rd_want_text Absent = codes "-"
+rd_want_text (Value rd) = register_text rd.number ++ hexadecimal rd.value
+rd_want_text (Nonzero number) = register_text number ++ codes "nonzero"
+rd_want_text (AtLeast rd) = register_text rd.number ++ codes "atleast:" ++ hexadecimal rd.value
+
+-- the number and the value of a CSR, or `-` for none
+abbrev pub csr_text : Option CsrValue → List ℕ
+csr_text None = codes "-"
+csr_text (Some csr) = hexadecimal csr.number ++ codes ":" ++ hexadecimal csr.value
+
+-- the value of the reference model, then the reported one
+abbrev pub differ : List ℕ → List ℕ → List ℕ
+differ want got = codes " want=" ++ want ++ codes " got=" ++ got
+
+-- what a line tells of a fault beside its number and name
+abbrev pub detail_of : Fault → List ℕ
+detail_of (BadFrame form) = codes " form=" ++ form_text form
+detail_of (Truncated have) = codes " have=" ++ decimal have
+detail_of BadOpen = []
+detail_of BadHart = []
+detail_of (TimeBack last) = codes " last=" ++ decimal last
+detail_of LatePoke = []
+detail_of (TagOrder last) = codes " last=" ++ decimal last
+detail_of (Pc want got) = differ (hexadecimal want) (hexadecimal got)
+detail_of (Word want got) = differ (hexadecimal want) (hexadecimal got)
+detail_of (Trap want got) = differ (cause_text want) (cause_text got)
+detail_of (NextPc want got) = differ (hexadecimal want) (hexadecimal got)
+detail_of (Rd want got) = differ (rd_want_text want) (rd_text got)
+detail_of (Csr index want got) = codes " index=" ++ decimal index ++ differ (csr_text want) (csr_text got)
+detail_of Unbuilt = []
+
+-- the number and the name of a fault
+abbrev pub fault_text : Fault → List ℕ
+fault_text fault = codes " fault=" ++ decimal (number_of fault) ++ codes " " ++ name_of fault
+
+-- the hart and the tag of the message, where there is one
+abbrev pub head_text : Option Head → List ℕ
+head_text None = []
+head_text (Some head) = codes " hart=" ++ decimal head.hart ++ codes " tag=" ++ decimal head.tag
+
+-- where the report is, and what is wrong there
+abbrev pub report_text : Report → List ℕ
+report_text report =
+    codes "REJECT message=" ++ decimal report.message ++ codes " offset=" ++ decimal report.offset
+    ++ fault_text report.fault ++ head_text report.head ++ detail_of report.fault
+
+-- the name of a limit
+abbrev pub limit_text : Limit → List ℕ
+limit_text Reads = codes "READS"
+limit_text Stores = codes "STORES"
+limit_text Kept = codes "KEPT"
+limit_text Messages = codes "MESSAGES"
+
+-- the hart whose count it is, or `-` where the count is of none
+abbrev pub limit_hart_text : Limit → ℕ → List ℕ
+limit_hart_text Reads hart = decimal hart
+limit_hart_text Stores hart = decimal hart
+limit_hart_text Kept hart = decimal hart
+limit_hart_text Messages _ = codes "-"
+
+-- the line of a verdict
+abbrev pub line_of : Verdict → List ℕ
+line_of (Accept messages retired operations) =
+    codes "ACCEPT messages=" ++ decimal messages ++ codes " retired=" ++ decimal retired
+    ++ codes " operations=" ++ decimal operations ++ newline
+line_of (Reject report) = report_text report ++ newline
+line_of (Undecided message limit hart count) =
+    codes "UNDECIDED message=" ++ decimal message ++ codes " limit=" ++ limit_text limit
+    ++ codes " hart=" ++ limit_hart_text limit hart ++ codes " count=" ++ decimal count ++ newline
