@@ -1,0 +1,6 @@
+pub mod Compares
+pub mod Retires
+pub mod Runs
+pub mod Judgements
+pub mod Cores
+pub mod Judged
