@@ -1,0 +1,12 @@
+-- An input that is read whole.
+use Rattle.std.specs.Prelude.{ℕ, ◌≡◌, ◌≤◌, ◌⊎◌, List, length, Option}
+use Rattle.std.specs.Io.KnownBytes.{Consumes, IsAtEnd}
+use Rattle.tandem_cli.specs.declared.intake.Whole.{Whole}
+use Rattle.tandem_cli.specs.declared.intake.Whole.TheVariants.{Bytes, Failed, Memory}
+
+-- the bytes that were taken are all that was left, or as many of its first bytes as are read at most
+abbrev pub WholeIs : Whole → Option (List ℕ) → Option (List ℕ) → Type 0
+WholeIs (Bytes bytes) left left' =
+    Consumes left left' bytes.items × (length bytes.items ≤ 268435457) × (IsAtEnd left' ⊎ (length bytes.items ≡ 268435457))
+WholeIs Failed left left' = Unit {0}
+WholeIs Memory left left' = Unit {0}

@@ -1,0 +1,9 @@
+pub mod Fits
+pub mod Numbers
+pub mod Options
+pub mod Outcomes
+pub mod Seen
+pub mod Words
+pub mod Intake
+pub mod Checks
+pub mod Answers

@@ -1,0 +1,176 @@
+//! The lines of the outcomes that have no verdict.
+ghost use Rattle.std.specs.Prelude.{◌≡◌, ◌+◌, ◌≤◌, ◌++◌, codes, length, OnErr, OnOk};
+ghost use Rattle.std.specs.Fmt.{decimal};
+ghost use Rattle.std.specs.Io.KnownBytes.{Appends};
+ghost use Rattle.tandem_cli.specs.Outcomes.{TakesFront, excess_text, failed_line, image_line, missing_line, newline, usage_line};
+ghost use Rattle.tandem_io.specs.Causes.{HasCause};
+ghost use Rattle.verdict_report.specs.Puts.{Puts};
+
+use elf_image::{ImageFault, TooLarge};
+use tandem_io::{Failed, Sink, write_all};
+use verdict_report::put::{put, put_decimal};
+
+/// Writes the words that `check` takes. After an error the sink took a front of the line.
+pub fn print_usage<K: Sink>(out: &mut K) -> Result<(), Failed>
+    ensures ok { OnOk result (Appends (K.written out.old) (K.written out.new) usage_line) }
+    ensures err { OnErr result (TakesFront (K.written out.old) (K.written out.new) usage_line) }
+    ensures cause { HasCause (K.faults out.old) (K.faults out.new) result }
+    ensures count { K.faults out.old ≤ K.faults out.new }
+{
+    print_text(
+        b"USAGE tandem check IMAGE STREAM [--flat BASE] [--ram BASE:SIZE]... [--limits R,S,K,M]\n",
+        out,
+    )
+}
+
+/// Writes that no input of this name is there. After an error the sink took a front of the line.
+pub fn print_missing<K: Sink>(name: &str, out: &mut K) -> Result<(), Failed>
+    ensures ok { OnOk result (Appends (K.written out.old) (K.written out.new) (missing_line name.now)) }
+    ensures err { OnErr result (TakesFront (K.written out.old) (K.written out.new) (missing_line name.now)) }
+    ensures cause { HasCause (K.faults out.old) (K.faults out.new) result }
+    ensures count { K.faults out.old ≤ K.faults out.new }
+{
+    print_parts(b"INPUT missing ", name.as_bytes(), b"\n", out)
+}
+
+/// Writes that the input of this name could not be read. After an error the sink took a front of
+/// the line.
+pub fn print_failed<K: Sink>(name: &str, out: &mut K) -> Result<(), Failed>
+    ensures ok { OnOk result (Appends (K.written out.old) (K.written out.new) (failed_line name.now)) }
+    ensures err { OnErr result (TakesFront (K.written out.old) (K.written out.new) (failed_line name.now)) }
+    ensures cause { HasCause (K.faults out.old) (K.faults out.new) result }
+    ensures count { K.faults out.old ≤ K.faults out.new }
+{
+    print_parts(b"INPUT failed ", name.as_bytes(), b"\n", out)
+}
+
+/// Writes why the image is none. After an error the sink took a front of the line.
+pub fn print_image_fault<K: Sink>(fault: &ImageFault, out: &mut K) -> Result<(), Failed>
+    ensures ok { OnOk result (Appends (K.written out.old) (K.written out.new) (image_line fault.now)) }
+    ensures err { OnErr result (TakesFront (K.written out.old) (K.written out.new) (image_line fault.now)) }
+    ensures cause { HasCause (K.faults out.old) (K.faults out.new) result }
+    ensures count { K.faults out.old ≤ K.faults out.new }
+{
+    let mut text = [0; 64];
+    print_image_over(fault, &mut text, out)
+}
+
+// Writes why the image is none, over 64 lent bytes.
+fn print_image_over<K: Sink>(fault: &ImageFault, text: &mut [u8], out: &mut K) -> Result<(), Failed>
+    requires { length text.old ≡ 64 }
+    ensures ok { OnOk result (Appends (K.written out.old) (K.written out.new) (image_line fault.now)) }
+    ensures err { OnErr result (TakesFront (K.written out.old) (K.written out.new) (image_line fault.now)) }
+    ensures cause { HasCause (K.faults out.old) (K.faults out.new) result }
+    ensures count { K.faults out.old ≤ K.faults out.new }
+{
+    let end = put_image_fault(fault, text, 0);
+    print_text(&text[..end], out)
+}
+
+// Writes the text, in one go.
+fn print_text<K: Sink>(text: &[u8], out: &mut K) -> Result<(), Failed>
+    ensures ok { OnOk result (Appends (K.written out.old) (K.written out.new) text.now) }
+    ensures err { OnErr result (TakesFront (K.written out.old) (K.written out.new) text.now) }
+    ensures cause { HasCause (K.faults out.old) (K.faults out.new) result }
+    ensures count { K.faults out.old ≤ K.faults out.new }
+{
+    match write_all(out, text) {
+        Ok(()) => Ok(()),
+        Err(_failed) => Err(Failed),
+    }
+}
+
+// Writes three texts, one behind the other.
+fn print_parts<K: Sink>(front: &[u8], middle: &[u8], back: &[u8], out: &mut K) -> Result<(), Failed>
+    ensures ok { OnOk result (Appends (K.written out.old) (K.written out.new) (front.now ++ middle.now ++ back.now)) }
+    ensures err { OnErr result (TakesFront (K.written out.old) (K.written out.new) (front.now ++ middle.now ++ back.now)) }
+    ensures cause { HasCause (K.faults out.old) (K.faults out.new) result }
+    ensures count { K.faults out.old ≤ K.faults out.new }
+{
+    print_two(front, middle, out)?;
+    print_text(back, out)
+}
+
+// Writes two texts, one behind the other.
+fn print_two<K: Sink>(front: &[u8], back: &[u8], out: &mut K) -> Result<(), Failed>
+    ensures ok { OnOk result (Appends (K.written out.old) (K.written out.new) (front.now ++ back.now)) }
+    ensures err { OnErr result (TakesFront (K.written out.old) (K.written out.new) (front.now ++ back.now)) }
+    ensures cause { HasCause (K.faults out.old) (K.faults out.new) result }
+    ensures count { K.faults out.old ≤ K.faults out.new }
+{
+    print_text(front, out)?;
+    print_text(back, out)
+}
+
+// Puts why the image is none.
+#[tactic(auto, using(verdict_report::proofs::PutsLaws::puts_then))]
+fn put_image_fault(fault: &ImageFault, out: &mut [u8], at: usize) -> usize
+    requires { at + 64 ≤ length out.old }
+    ensures puts { Puts at out.old result out.new (image_line fault.now) }
+    ensures bound { result ≤ at + 64 }
+{
+    match *fault {
+        ImageFault::NotElf => put(b"IMAGE 1 NotElf\n", out, at),
+        ImageFault::Class => put(b"IMAGE 2 Class\n", out, at),
+        ImageFault::Kind => put(b"IMAGE 3 Kind\n", out, at),
+        ImageFault::Machine => put(b"IMAGE 4 Machine\n", out, at),
+        ImageFault::Headers(offset) => put_numbered(b"IMAGE 5 Headers ", offset, out, at),
+        ImageFault::Segment(index) => put_numbered(b"IMAGE 6 Segment ", index, out, at),
+        ImageFault::Overlap(first, second) => put_overlap(first, second, out, at),
+        ImageFault::TooLarge(limit) => {
+            let end = put(b"IMAGE 8 TooLarge ", out, at);
+            let end = put_excess(limit, out, end);
+            put(b"\n", out, end)
+        }
+        ImageFault::Memory => put(b"", out, at),
+    }
+}
+
+// Puts a text, a number and a newline.
+#[tactic(auto, using(verdict_report::proofs::PutsLaws::puts_then))]
+fn put_numbered(text: &[u8], number: u16, out: &mut [u8], at: usize) -> usize
+    requires { at + length text.now + 6 ≤ length out.old }
+    ensures puts { Puts at out.old result out.new (text.now ++ decimal number ++ newline) }
+    ensures bound { result ≤ at + length text.now + 6 }
+{
+    let end = put(text, out, at);
+    let end = put_decimal(number, out, end);
+    put(b"\n", out, end)
+}
+
+// Puts that two segments share an address.
+#[tactic(auto, using(verdict_report::proofs::PutsLaws::puts_then))]
+fn put_overlap(first: u16, second: u16, out: &mut [u8], at: usize) -> usize
+    requires { at + 64 ≤ length out.old }
+    ensures puts { Puts at out.old result out.new (codes "IMAGE 7 Overlap " ++ decimal first ++ codes " " ++ decimal second ++ newline) }
+    ensures bound { result ≤ at + 64 }
+{
+    let end = put(b"IMAGE 7 Overlap ", out, at);
+    let end = put_decimal(first, out, end);
+    let end = put(b" ", out, end);
+    let end = put_decimal(second, out, end);
+    put(b"\n", out, end)
+}
+
+// Puts a limit of images, and the count that passes it.
+#[tactic(auto, using(verdict_report::proofs::PutsLaws::puts_then))]
+fn put_excess(limit: TooLarge, out: &mut [u8], at: usize) -> usize
+    requires { at + 46 ≤ length out.old }
+    ensures puts { Puts at out.old result out.new (excess_text limit) }
+    ensures bound { result ≤ at + 46 }
+{
+    match limit {
+        TooLarge::File(length) => {
+            let end = put(b"File ", out, at);
+            put_decimal(length, out, end)
+        }
+        TooLarge::Ranges(count) => {
+            let end = put(b"Ranges ", out, at);
+            put_decimal(count, out, end)
+        }
+        TooLarge::Sum(size) => {
+            let end = put(b"Sum ", out, at);
+            put_decimal(size, out, end)
+        }
+    }
+}
