@@ -1,0 +1,7 @@
+use Rattle.std.proofs.Common.{◌≡◌, drop}
+use Rattle.rvwmo_model.specs.Search.{some_of}
+use Rattle.rvwmo_model.specs.Tests.{store_between}
+use Rattle.rvwmo_model.proofs.judge.rules.some_store_between.Given as goal
+
+abbrev pub invariant-loop-o : goal.invariant-loop-o
+invariant-loop-o l = some_of (store_between l.a l.b l.x) l.ops ≡ some_of (store_between l.a l.b l.x) (drop l.o-index l.ops)

@@ -1,0 +1,17 @@
+pub mod Answer
+pub mod Atomicity
+pub mod Dependencies
+pub mod Flows
+pub mod InForm
+pub mod Initial
+pub mod Laws
+pub mod Legal
+pub mod Members
+pub mod Order
+pub mod ProgramOrder
+pub mod Report
+pub mod Rules
+pub mod Search
+pub mod Sources
+pub mod Tests
+pub mod Walk

@@ -1,0 +1,180 @@
+-- The tests that the plain program makes: each computes one word of the definitions.
+use Rattle.std.specs.Prelude.{ℕ, ◌+◌, ◌-◌, ◌/◌, ◌==◌, ◌&&◌, ◌||◌, nat_lt, not, is_some, Bool, true, false, None, Some}
+use Rattle.std.specs.List.{filter}
+use Rattle.std.specs.declared.option.Option.{Option}
+use Rattle.tandem_base.specs.declared.names.Origin.{Origin}
+use Rattle.rvwmo_model.specs.declared.instructions.Retired.{Retired}
+use Rattle.rvwmo_model.specs.declared.judge.walk.Use.{Use}
+use Rattle.rvwmo_model.specs.declared.judge.walk.Use.TheVariants.{Address, Data, Control}
+use Rattle.rvwmo_model.specs.declared.operations.Op.{Op}
+use Rattle.rvwmo_model.specs.declared.traces.Trace.{Trace}
+use Rattle.rvwmo_model.specs.Order.{stores, covers, reads, writes, precedes, got_at}
+use Rattle.rvwmo_model.specs.ProgramOrder.{insn_at, insn_of, is_one}
+use Rattle.rvwmo_model.specs.Sources.{latest_from, source, given, key_of, origin}
+use Rattle.rvwmo_model.specs.Rules.{Rule, R1, R2, R3, R4, R5, R6, R7, R8, R9, R10, R11, R12, R13, is_amo_or_sc, fence_orders, is_annotated, is_rcsc, is_lr, is_sc}
+use Rattle.rvwmo_model.specs.Atomicity.{has_stored}
+use Rattle.rvwmo_model.specs.Search.{some_of, some_byte, first_byte}
+use Rattle.rvwmo_model.specs.Walk.{finds}
+
+abbrev pub is_between : Op → Op → ℕ → ℕ → Bool
+is_between a b hart tag = (hart == a.name.hart) && nat_lt a.name.tag tag && nat_lt tag b.name.tag
+
+-- rule 1
+
+abbrev pub overlap : Op → Op → Bool
+overlap a b = some_byte (λ x. covers x a && writes x b) a
+
+-- rule 2
+
+abbrev pub same_origin : Option Origin → Option Origin → Bool
+same_origin None None = true
+same_origin None (Some n) = false
+same_origin (Some m) None = false
+same_origin (Some m) (Some n) = (m.hart == n.hart) && (m.tag == n.tag)
+
+abbrev pub store_between : Op → Op → ℕ → Op → Bool
+store_between a b x o = is_between a b o.name.hart o.name.tag && writes x o
+
+abbrev pub read_apart_at : Trace → Op → Op → ℕ → Bool
+read_apart_at t a b x = reads x a && reads x b && not (same_origin (origin t a x) (origin t b x)) && not (some_of (store_between a b x) t.ops)
+
+abbrev pub read_apart : Trace → Op → Op → Bool
+read_apart t a b = some_byte (read_apart_at t a b) a
+
+-- rule 3
+
+abbrev pub reads_from : Trace → Op → Origin → Bool
+reads_from t b key = some_byte (λ x. reads x b && same_origin (origin t b x) (Some key)) b
+
+abbrev pub reads_atomic : Trace → Op → Op → Bool
+reads_atomic t a b = is_one is_amo_or_sc (insn_of t a) && reads_from t b (key_of a)
+
+-- rule 4
+
+abbrev pub fence_at : Op → Op → Retired → Bool
+fence_at a b w = is_between a b w.hart w.tag && fence_orders w.insn a.kind b.kind
+
+abbrev pub fenced : Trace → Op → Op → Bool
+fenced t a b = some_of (fence_at a b) t.insns
+
+-- rules 5 to 7
+
+abbrev pub both_rcsc : Op → Op → Bool
+both_rcsc a b = (is_rcsc a.acquire || is_rcsc a.release) && (is_rcsc b.acquire || is_rcsc b.release)
+
+-- rule 8
+
+abbrev pub parts_pair : Op → Op → Retired → Bool
+parts_pair a b w = is_between a b w.hart w.tag && (is_lr w.insn || is_sc w.insn)
+
+abbrev pub is_pair_of : Trace → Op → Op → Bool
+is_pair_of t a b =
+    nat_lt a.name.tag b.name.tag && is_one is_lr (insn_of t a) && is_one is_sc (insn_at t.insns a.name.hart b.name.tag) && not (some_of (parts_pair a b) t.insns)
+
+-- rules 9 to 13
+
+-- the instruction under a tag depends on that of a
+abbrev pub depends_at : Use → Trace → Op → ℕ → Bool
+depends_at by t a tag = finds (record { hart = a.name.hart; start = a.name.tag; from = tag; to = tag; by = by }) t.insns
+
+-- an instruction between a and b depends on that of a
+abbrev pub depends_between : Use → Trace → Op → Op → Bool
+depends_between by t a b = finds (record { hart = a.name.hart; start = a.name.tag; from = a.name.tag + 1; to = b.name.tag - 1; by = by }) t.insns
+
+abbrev pub is_dependent : Trace → Op → Op → Option Origin → Bool
+is_dependent t a b None = false
+is_dependent t a b (Some m) = is_between a b m.hart m.tag && (depends_at Address t a m.tag || depends_at Data t a m.tag)
+
+abbrev pub reads_dependent : Trace → Op → Op → Bool
+reads_dependent t a b = some_byte (λ x. reads x b && is_dependent t a b (origin t b x)) b
+
+-- rule k puts a before b
+abbrev pub holds : Rule → Trace → Op → Op → Bool
+holds R1 t a b = overlap a b
+holds R2 t a b = read_apart t a b
+holds R3 t a b = reads_atomic t a b
+holds R4 t a b = fenced t a b
+holds R5 t a b = is_annotated a.acquire
+holds R6 t a b = is_annotated b.release
+holds R7 t a b = both_rcsc a b
+holds R8 t a b = is_pair_of t a b
+holds R9 t a b = depends_at Address t a b.name.tag
+holds R10 t a b = depends_at Data t a b.name.tag
+holds R11 t a b = stores b && depends_between Control t a b
+holds R12 t a b = reads_dependent t a b
+holds R13 t a b = stores b && depends_between Address t a b
+
+-- and b comes before a
+abbrev pub is_broken : Rule → Trace → Op → Op → Bool
+is_broken k t a b = (b.name.hart == a.name.hart) && nat_lt a.name.tag b.name.tag && precedes b a && holds k t a b
+
+-- values
+
+abbrev pub is_wrong : (ℕ → ℕ) → Trace → Op → ℕ → Bool
+is_wrong initial t i x = reads x i && not (got_at i x == given initial (source t i x) x)
+
+-- the lowest wrong byte
+abbrev pub wrong_byte : (ℕ → ℕ) → Trace → Op → Option ℕ
+wrong_byte initial t i = first_byte (is_wrong initial t i) i
+
+-- pairs
+
+abbrev pub is_pair : Trace → Op → Op → Bool
+is_pair t r w = (w.name.hart == r.name.hart) && is_pair_of t r w && has_stored (insn_of t w)
+
+abbrev pub is_within : Op → Op → Bool
+is_within w r = not (some_byte (λ x. covers x w && not (covers x r)) w)
+
+abbrev pub is_unpaired : Trace → Op → Bool
+is_unpaired t w = has_stored (insn_of t w) && not (some_of (λ r. is_pair t r w && is_within w r) t.ops)
+
+-- atomicity
+
+-- some operation or early store passes
+abbrev pub some_everywhere : (Op → Bool) → Trace → Bool
+some_everywhere p t = some_of p t.ops || some_of p t.early
+
+-- the latest of those that pass
+abbrev pub latest_everywhere : (Op → Bool) → Trace → Option Op
+latest_everywhere p t = latest_from (latest_from None (filter p t.ops)) (filter p t.early)
+
+-- v is a store of another hart than w, before w
+abbrev pub is_other_before : Op → Op → Bool
+is_other_before w v = not (v.name.hart == w.name.hart) && precedes v w
+
+abbrev pub is_foreign : Op → ℕ → Op → Bool
+is_foreign w x v = writes x v && is_other_before w v
+
+abbrev pub is_after : Option Op → Op → Bool
+is_after None v = true
+is_after (Some s) v = precedes s v
+
+abbrev pub is_late : Option Op → Op → Bool
+is_late None w = false
+is_late (Some s) w = not (precedes s w)
+
+abbrev pub intrudes : Option Op → Op → ℕ → Op → Bool
+intrudes s w x v = is_foreign w x v && is_after s v
+
+abbrev pub is_torn_at : Trace → Op → Op → ℕ → Bool
+is_torn_at t r w x = reads x r && (is_late (source t r x) w || some_everywhere (intrudes (source t r x) w x) t)
+
+-- the lowest byte of r at which the pair isn't atomic
+abbrev pub torn_byte : Trace → Op → Op → Option ℕ
+torn_byte t r w = first_byte (is_torn_at t r w) r
+
+abbrev pub in_block : Trace → Op → ℕ → Bool
+in_block t r x = nat_lt 0 t.granule && (x / t.granule == r.extent.addr / t.granule)
+
+abbrev pub writes_block : Trace → Op → Op → ℕ → Bool
+writes_block t r v x = writes x v && in_block t r x
+
+-- the lowest byte of the block of r that v stores to
+abbrev pub block_byte : Trace → Op → Op → Option ℕ
+block_byte t r v = first_byte (writes_block t r v) v
+
+abbrev pub intrudes_block : Trace → Op → Op → Op → Bool
+intrudes_block t r w v = is_other_before w v && precedes r v && is_some (block_byte t r v)
+
+abbrev pub is_torn : Trace → Op → Op → Bool
+is_torn t r w = is_pair t r w && (is_some (torn_byte t r w) || some_everywhere (intrudes_block t r w) t)

@@ -1,0 +1,24 @@
+use elf_image::Image;
+
+/// Memory as it was before the first operation.
+pub trait InitialBytes {
+    ghost use Rattle.std.specs.Prelude.{◌≡◌, ℕ};
+
+    /// The initial value of the byte at each address.
+    ghost initial_of: { Self → ℕ → ℕ };
+
+    /// The initial value of the byte at an address.
+    fn initial(&self, addr: u64) -> u8
+        ensures { result ≡ initial_of self.now addr };
+}
+
+/// An image's byte, or 0 where it has none.
+impl InitialBytes for Image {
+    ghost use Rattle.rvwmo_model.specs.Initial.{initial_byte};
+
+    ghost initial_of = { initial_byte };
+
+    fn initial(&self, addr: u64) -> u8 {
+        self.byte(addr).unwrap_or(0)
+    }
+}

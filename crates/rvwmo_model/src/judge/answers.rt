@@ -1,0 +1,419 @@
+//! What is answered to a trace: the first of its offences, with the choices that are stated.
+ghost use Rattle.std.specs.Prelude.{◌≡◌, ◌&&◌, IfOk, is_some, None};
+ghost use Rattle.std.specs.List.{filter};
+ghost use Rattle.rvwmo_model.specs.Answer;
+ghost use Rattle.rvwmo_model.specs.Report;
+ghost use Rattle.rvwmo_model.specs.Search;
+ghost use Rattle.rvwmo_model.specs.Sources;
+ghost use Rattle.rvwmo_model.specs.Tests;
+
+use super::atomic::{
+    blamed, block_byte, is_torn, is_unpaired, latest_intruder, or_address, torn_byte,
+};
+use super::rules::is_broken;
+use super::sources::{key_of, later, source};
+use crate::answers::Judged;
+use crate::initial::InitialBytes;
+use crate::operations::Op;
+use crate::preserved::Rule;
+use crate::traces::Trace;
+use std::alloc::{AllocError, Global};
+
+#[tactic(auto, unfolding(crate::specs::Order::earlier))]
+fn is_named_first(a: &Op, b: &Op) -> bool
+    ensures { result ≡ Answer.is_named_first a.now b.now }
+{
+    let (m, n) = (a.name, b.name);
+    m.hart < n.hart || m.hart == n.hart && (m.tag < n.tag || m.tag == n.tag && m.part < n.part)
+}
+
+fn least(best: Option<Op>, o: &Op) -> Option<Op>
+    ensures { result ≡ Search.better_of Answer.is_named_first best o.now }
+{
+    match best {
+        None => Some(*o),
+        Some(v) => {
+            if is_named_first(o, &v) {
+                Some(*o)
+            } else {
+                Some(v)
+            }
+        }
+    }
+}
+
+// ---- pair
+
+fn least_unpaired(t: &Trace, ops: &[Op]) -> Option<Op>
+    ensures { result ≡ Answer.least_of (Tests.is_unpaired t.now) ops.now }
+{
+    let mut best = None;
+    for w in ops {
+        if is_unpaired(t, w) {
+            best = least(best, w);
+        }
+    }
+    best
+}
+
+/// The offence of pair, where there is one.
+pub fn pair_answer(t: &Trace) -> Option<Judged>
+    ensures { result ≡ Answer.pair_answer t.now }
+{
+    match least_unpaired(t, t.ops.items()) {
+        None => None,
+        Some(w) => Some(Judged::Pair(w.name)),
+    }
+}
+
+// ---- value
+
+fn given<I: InitialBytes>(image: &I, source: &Option<Op>, x: u64) -> u8
+    ensures { result ≡ Sources.given (I.initial_of image.now) source.now x }
+{
+    match source {
+        None => image.initial(x),
+        Some(s) => s.put_at(x),
+    }
+}
+
+fn is_wrong<I: InitialBytes>(image: &I, t: &Trace, i: &Op, x: u64) -> bool
+    ensures { result ≡ Tests.is_wrong (I.initial_of image.now) t.now i.now x }
+{
+    i.reads(x) && i.got_at(x) != given(image, &source(t, i, x), x)
+}
+
+#[tactic(auto, unfolding(crate::specs::Search::first_at))]
+fn wrong_byte<I: InitialBytes>(image: &I, t: &Trace, i: &Op) -> Option<u64>
+    ensures { result ≡ Tests.wrong_byte (I.initial_of image.now) t.now i.now }
+{
+    let mut found = None;
+    for j in 0..i.extent.len {
+        let x = i.extent.addr + u64::from(j);
+        found = or_address(found, is_wrong(image, t, i, x), x);
+    }
+    found
+}
+
+fn least_wrong<I: InitialBytes>(image: &I, t: &Trace, ops: &[Op]) -> Option<Op>
+    ensures { result ≡ Answer.least_of (λ i. is_some (Tests.wrong_byte (I.initial_of image.now) t.now i)) ops.now }
+{
+    let mut best = None;
+    for i in ops {
+        if wrong_byte(image, t, i).is_some() {
+            best = least(best, i);
+        }
+    }
+    best
+}
+
+fn value_at<I: InitialBytes>(image: &I, t: &Trace, i: &Op, byte: Option<u64>) -> Option<Judged>
+    ensures { result ≡ Answer.value_at (I.initial_of image.now) t.now i.now byte }
+{
+    match byte {
+        None => None,
+        Some(x) => Some(Judged::Value {
+            name: i.name,
+            at: x,
+            want: given(image, &source(t, i, x), x),
+            got: i.got_at(x),
+        }),
+    }
+}
+
+/// The offence of value, where there is one.
+pub fn value_answer<I: InitialBytes>(image: &I, t: &Trace) -> Option<Judged>
+    ensures { result ≡ Answer.value_answer (I.initial_of image.now) t.now }
+{
+    match least_wrong(image, t, t.ops.items()) {
+        None => None,
+        Some(i) => value_at(image, t, &i, wrong_byte(image, t, &i)),
+    }
+}
+
+// ---- order
+
+fn some_first(alloc: Global, rule: Rule, t: &Trace, ops: &[Op], b: &Op) -> Result<bool, AllocError>
+    ensures { IfOk result (λ found. found ≡ Search.some_of (λ a. Tests.is_broken rule t.now a b.now) ops.now) }
+{
+    for a in ops {
+        if is_broken(alloc, rule, t, a, b)? {
+            return Ok(true);
+        }
+    }
+    Ok(false)
+}
+
+#[tactic(auto, unfolding(crate::specs::Answer::has_first))]
+fn has_first(alloc: Global, rule: Rule, t: &Trace, b: &Op) -> Result<bool, AllocError>
+    ensures { IfOk result (λ found. found ≡ Answer.has_first rule t.now b.now) }
+{
+    some_first(alloc, rule, t, t.ops.items(), b)
+}
+
+fn latest_first(
+    alloc: Global,
+    rule: Rule,
+    t: &Trace,
+    ops: &[Op],
+    b: &Op,
+) -> Result<Option<Op>, AllocError>
+    ensures { IfOk result (λ first. first ≡ Sources.latest_from None (filter (λ a. Tests.is_broken rule t.now a b.now) ops.now)) }
+{
+    let mut best = None;
+    for a in ops {
+        if is_broken(alloc, rule, t, a, b)? {
+            best = later(best, a);
+        }
+    }
+    Ok(best)
+}
+
+fn least_second(alloc: Global, rule: Rule, t: &Trace, ops: &[Op]) -> Result<Option<Op>, AllocError>
+    ensures { IfOk result (λ second. second ≡ Answer.least_of (Answer.has_first rule t.now) ops.now) }
+{
+    let mut best = None;
+    for b in ops {
+        if has_first(alloc, rule, t, b)? {
+            best = least(best, b);
+        }
+    }
+    Ok(best)
+}
+
+fn second_of(alloc: Global, rule: Rule, t: &Trace) -> Result<Option<Op>, AllocError>
+    ensures { IfOk result (λ second. second ≡ Answer.second_of rule t.now) }
+{
+    least_second(alloc, rule, t, t.ops.items())
+}
+
+fn first_of(alloc: Global, rule: Rule, t: &Trace, b: &Op) -> Result<Option<Op>, AllocError>
+    ensures { IfOk result (λ first. first ≡ Answer.first_of rule t.now b.now) }
+{
+    latest_first(alloc, rule, t, t.ops.items(), b)
+}
+
+fn order_pair(rule: Rule, b: &Op, first: Option<Op>) -> Option<Judged>
+    ensures { result ≡ Answer.order_pair rule b.now first }
+{
+    match first {
+        None => None,
+        Some(a) => Some(Judged::Order {
+            rule: rule.number(),
+            first: a.name,
+            second: b.name,
+        }),
+    }
+}
+
+fn order_of(alloc: Global, rule: Rule, t: &Trace) -> Result<Option<Judged>, AllocError>
+    ensures { IfOk result (λ answer. answer ≡ Answer.order_of rule t.now (Answer.second_of rule t.now)) }
+{
+    match second_of(alloc, rule, t)? {
+        None => Ok(None),
+        Some(b) => {
+            let first = first_of(alloc, rule, t, &b)?;
+            Ok(order_pair(rule, &b, first))
+        }
+    }
+}
+
+fn order_from(alloc: Global, t: &Trace, rules: &[Rule]) -> Result<Option<Judged>, AllocError>
+    ensures { IfOk result (λ answer. answer ≡ Answer.order_from t.now rules.now) }
+{
+    for rule in rules {
+        let answer = order_of(alloc, *rule, t)?;
+        if answer.is_some() {
+            return Ok(answer);
+        }
+    }
+    Ok(None)
+}
+
+/// The offence of order, where there is one.
+pub fn order_answer(alloc: Global, t: &Trace) -> Result<Option<Judged>, AllocError>
+    ensures { IfOk result (λ answer. answer ≡ Answer.order_answer t.now) }
+{
+    let rules = [
+        Rule::R1,
+        Rule::R2,
+        Rule::R3,
+        Rule::R4,
+        Rule::R5,
+        Rule::R6,
+        Rule::R7,
+        Rule::R8,
+        Rule::R9,
+        Rule::R10,
+        Rule::R11,
+        Rule::R12,
+        Rule::R13,
+    ];
+    order_from(alloc, t, &rules)
+}
+
+// ---- atomicity
+
+fn least_lr(t: &Trace, ops: &[Op], w: &Op) -> Option<Op>
+    ensures { result ≡ Answer.least_of (λ r. Tests.is_torn t.now r w.now) ops.now }
+{
+    let mut best = None;
+    for r in ops {
+        if is_torn(t, r, w) {
+            best = least(best, r);
+        }
+    }
+    best
+}
+
+fn some_lr(t: &Trace, ops: &[Op], w: &Op) -> bool
+    ensures { result ≡ Search.some_of (λ r. Tests.is_torn t.now r w.now) ops.now }
+{
+    for r in ops {
+        if is_torn(t, r, w) {
+            return true;
+        }
+    }
+    false
+}
+
+#[tactic(auto, unfolding(crate::specs::Answer::has_torn))]
+fn has_torn(t: &Trace, w: &Op) -> bool
+    ensures { result ≡ Answer.has_torn t.now w.now }
+{
+    some_lr(t, t.ops.items(), w)
+}
+
+fn least_sc(t: &Trace, ops: &[Op]) -> Option<Op>
+    ensures { result ≡ Answer.least_of (Answer.has_torn t.now) ops.now }
+{
+    let mut best = None;
+    for w in ops {
+        if has_torn(t, w) {
+            best = least(best, w);
+        }
+    }
+    best
+}
+
+fn torn_sc(t: &Trace) -> Option<Op>
+    ensures { result ≡ Answer.least_of (Answer.has_torn t.now) t.now.ops }
+{
+    least_sc(t, t.ops.items())
+}
+
+fn torn_at(w: &Op, x: u64, store: Option<Op>) -> Option<Judged>
+    ensures { result ≡ Answer.torn_at w.now x store }
+{
+    match store {
+        None => None,
+        Some(s) => Some(Judged::Atomicity {
+            name: w.name,
+            at: x,
+            store: key_of(&s),
+        }),
+    }
+}
+
+fn block_at(w: &Op, s: &Op, byte: Option<u64>) -> Option<Judged>
+    ensures { result ≡ Answer.block_at w.now s.now byte }
+{
+    match byte {
+        None => None,
+        Some(x) => Some(Judged::Atomicity {
+            name: w.name,
+            at: x,
+            store: key_of(s),
+        }),
+    }
+}
+
+fn block_of(t: &Trace, r: &Op, w: &Op) -> Option<Judged>
+    ensures { result ≡ Answer.block_of t.now r.now w.now (Tests.latest_everywhere (Tests.intrudes_block t.now r.now w.now) t.now) }
+{
+    match latest_intruder(t, r, w) {
+        None => None,
+        Some(s) => block_at(w, &s, block_byte(t, r, &s)),
+    }
+}
+
+fn torn_of(t: &Trace, r: &Op, w: &Op) -> Option<Judged>
+    ensures { result ≡ Answer.torn_of t.now r.now w.now (Tests.torn_byte t.now r.now w.now) }
+{
+    match torn_byte(t, r, w) {
+        None => block_of(t, r, w),
+        Some(x) => torn_at(w, x, blamed(t, w, x, source(t, r, x))),
+    }
+}
+
+fn pair_torn(t: &Trace, w: &Op) -> Option<Judged>
+    ensures { result ≡ Answer.pair_torn t.now w.now (Answer.least_of (λ r. Tests.is_torn t.now r w.now) t.now.ops) }
+{
+    match least_lr(t, t.ops.items(), w) {
+        None => None,
+        Some(r) => torn_of(t, &r, w),
+    }
+}
+
+/// The offence of atomicity, where there is one.
+pub fn atomicity_answer(t: &Trace) -> Option<Judged>
+    ensures { result ≡ Answer.atomicity_answer t.now }
+{
+    match torn_sc(t) {
+        None => None,
+        Some(w) => pair_torn(t, &w),
+    }
+}
+
+// ---- the answer
+
+fn or_else(answer: Option<Judged>, other: Option<Judged>) -> Option<Judged>
+    ensures { result ≡ Search.or_else answer other }
+{
+    match answer {
+        None => other,
+        Some(j) => Some(j),
+    }
+}
+
+fn legal_unless(answer: Option<Judged>) -> Judged
+    ensures { result ≡ Answer.legal_unless answer }
+{
+    match answer {
+        None => Judged::Legal,
+        Some(j) => j,
+    }
+}
+
+fn order_or_atomicity(alloc: Global, t: &Trace) -> Result<Option<Judged>, AllocError>
+    ensures { IfOk result (λ answer. answer ≡ Search.or_else (Answer.order_answer t.now) (Answer.atomicity_answer t.now)) }
+{
+    let order = order_answer(alloc, t)?;
+    Ok(or_else(order, atomicity_answer(t)))
+}
+
+fn value_or_later<I: InitialBytes>(
+    alloc: Global,
+    image: &I,
+    t: &Trace,
+) -> Result<Option<Judged>, AllocError>
+    ensures { IfOk result (λ answer. answer ≡ Search.or_else (Answer.value_answer (I.initial_of image.now) t.now) (Search.or_else (Answer.order_answer t.now) (Answer.atomicity_answer t.now))) }
+{
+    match value_answer(image, t) {
+        None => order_or_atomicity(alloc, t),
+        Some(j) => Ok(Some(j)),
+    }
+}
+
+/// The answer to a trace.
+pub fn answer<I: InitialBytes>(alloc: Global, image: &I, t: &Trace) -> Result<Judged, AllocError>
+    ensures { IfOk result (λ answer. answer ≡ Answer.answer (I.initial_of image.now) t.now) }
+{
+    match pair_answer(t) {
+        None => {
+            let later = value_or_later(alloc, image, t)?;
+            Ok(legal_unless(later))
+        }
+        Some(j) => Ok(j),
+    }
+}

@@ -1,0 +1,111 @@
+//! Where a loaded byte comes from.
+ghost use Rattle.std.specs.Prelude.{◌≡◌, ◌&&◌, ◌||◌, None};
+ghost use Rattle.std.specs.List.{filter};
+ghost use Rattle.rvwmo_model.specs.Order;
+ghost use Rattle.rvwmo_model.specs.ProgramOrder;
+ghost use Rattle.rvwmo_model.specs.Sources;
+ghost use Rattle.rvwmo_model.specs.Tests;
+
+use crate::instructions::Retired;
+use crate::operations::Op;
+use crate::traces::Trace;
+use tandem_base::Origin;
+
+/// The instruction of a hart under a tag.
+pub fn insn_at(insns: &[Retired], hart: u8, tag: u64) -> Option<Retired>
+    ensures { result ≡ ProgramOrder.insn_at insns.now hart tag }
+{
+    for w in insns {
+        if w.hart == hart && w.tag == tag {
+            return Some(*w);
+        }
+    }
+    None
+}
+
+/// The instruction of an operation.
+pub fn insn_of(t: &Trace, o: &Op) -> Option<Retired>
+    ensures { result ≡ ProgramOrder.insn_of t.now o.now }
+{
+    insn_at(t.insns.items(), o.name.hart, o.name.tag)
+}
+
+/// The later of two in global order.
+pub fn later(best: Option<Op>, w: &Op) -> Option<Op>
+    ensures { result ≡ Sources.later best w.now }
+{
+    match best {
+        None => Some(*w),
+        Some(v) => { if v.precedes(w) { Some(*w) } else { Some(v) } }
+    }
+}
+
+fn latest_retired(ops: &[Op], i: &Op, x: u64) -> Option<Op>
+    ensures { result ≡ Sources.latest_from None (filter (λ w. Order.writes x w && (Order.precedes w i.now || ProgramOrder.is_older w i.now)) ops.now) }
+{
+    let mut best = None;
+    for w in ops {
+        if w.writes(x) && (w.precedes(i) || w.is_older(i)) {
+            best = later(best, w);
+        }
+    }
+    best
+}
+
+fn latest_early(start: Option<Op>, early: &[Op], i: &Op, x: u64) -> Option<Op>
+    ensures { result ≡ Sources.latest_from start (filter (λ w. Order.writes x w && Order.precedes w i.now) early.now) }
+{
+    let mut best = start;
+    for w in early {
+        if w.writes(x) && w.precedes(i) {
+            best = later(best, w);
+        }
+    }
+    best
+}
+
+/// The source of byte `x` of the load `i`; None for the initial value.
+#[tactic(auto, using(crate::proofs::Latest::source_joined))]
+pub fn source(t: &Trace, i: &Op, x: u64) -> Option<Op>
+    ensures { result ≡ Sources.source t.now i.now x }
+{
+    latest_early(latest_retired(t.ops.items(), i, x), t.early.items(), i, x)
+}
+
+/// The hart and tag of an operation.
+pub fn key_of(o: &Op) -> Origin
+    ensures { result ≡ Sources.key_of o.now }
+{
+    Origin {
+        hart: o.name.hart,
+        tag: o.name.tag,
+    }
+}
+
+fn origin_of(source: Option<Op>) -> Option<Origin>
+    ensures { result ≡ Sources.origin_of source }
+{
+    match source {
+        None => None,
+        Some(s) => Some(key_of(&s)),
+    }
+}
+
+/// The hart and tag of that source.
+pub fn origin(t: &Trace, i: &Op, x: u64) -> Option<Origin>
+    ensures { result ≡ Sources.origin t.now i.now x }
+{
+    origin_of(source(t, i, x))
+}
+
+/// Whether two sources are the same.
+pub fn same_origin(m: Option<Origin>, n: Option<Origin>) -> bool
+    ensures { result ≡ Tests.same_origin m n }
+{
+    match (m, n) {
+        (None, None) => true,
+        (None, Some(_n)) => false,
+        (Some(_m), None) => false,
+        (Some(p), Some(q)) => p.hart == q.hart && p.tag == q.tag,
+    }
+}

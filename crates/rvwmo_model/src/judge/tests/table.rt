@@ -1,0 +1,303 @@
+//! Traces as tables, and the answers that are wanted.
+use crate::answers::Judged;
+use crate::initial::InitialBytes;
+use crate::instructions::Retired;
+use crate::judge::answers::answer;
+use crate::lists::{InsnList, OpList};
+use crate::operations::{Ann, Op, OpKind};
+use crate::traces::Trace;
+use rv_decode::{AmoOp, BranchOp, CsrOp, Insn, LoadOp, RegOp, StoreOp};
+use std::alloc::Global;
+use std::test::Fail;
+use tandem_base::{Bytes8, Extent, OpName, Origin, Place};
+
+/// Hart, tag and part.
+pub type Name = (u8, u64, u8);
+
+pub type CaseRow = (u8, u8, Want);
+
+pub type InsnRow = (u8, u8, u64, Kind, u8, u8, u16, bool);
+
+pub type OpRow = (u8, Name, Access, (u64, u8, u8), (u64, u64), PlaceRow);
+
+type PlaceRow = Option<(u64, u64, u64)>;
+
+/// Kind, acquire and release annotation.
+pub type Access = (OpKind, Ann, Ann);
+
+pub const L: Access = (OpKind::Load, Ann::None, Ann::None);
+
+pub const L_AQ: Access = (OpKind::Load, Ann::Rcsc, Ann::None);
+
+pub const S: Access = (OpKind::Store, Ann::None, Ann::None);
+
+pub const S_RCPC: Access = (OpKind::Store, Ann::None, Ann::Rcpc);
+
+pub const B: Access = (OpKind::Both, Ann::None, Ann::None);
+
+pub const B_AQ: Access = (OpKind::Both, Ann::Rcsc, Ann::None);
+
+pub const B_RL: Access = (OpKind::Both, Ann::None, Ann::Rcsc);
+
+pub const X: u64 = 0x80001000;
+
+pub const U: u64 = 0x8000103c;
+
+pub const V: u64 = 0x80001008;
+
+pub const Y: u64 = 0x80001040;
+
+pub const Z: u64 = 0x80001080;
+
+/// The instructions of the tables. A FENCE has fm, pred and succ in place of its registers.
+#[derive(Clone, Copy)]
+pub enum Kind {
+    Lui,
+    Auipc,
+    Jalr,
+    Beq,
+    Lw,
+    Ld,
+    Sw,
+    Sd,
+    Xor,
+    Add,
+    Fence,
+    Csrrw,
+    Csrrs,
+    Csrrwi,
+    Lr,
+    Sc,
+    Amoadd,
+    Amoswap,
+}
+
+#[derive(Clone, Copy)]
+pub enum Want {
+    Legal,
+    Pair(Name),
+    Value(Name, u64, u8, u8),
+    Order(u8, Name, Name),
+    Atomicity(Name, u64, (u8, u64)),
+}
+
+/// Memory that is all one byte at first.
+pub struct Filled {
+    pub byte: u8,
+}
+
+impl InitialBytes for Filled {
+    ghost use Rattle.std.specs.Prelude.{◌≡◌};
+
+    ghost initial_of = { λ filled x. filled.byte };
+
+    fn initial(&self, _addr: u64) -> u8 {
+        self.byte
+    }
+}
+
+fn alu(op: RegOp, rd: u8, rs1: u8, rs2: u8) -> Insn {
+    Insn::Alu { op, rd, rs1, rs2 }
+}
+
+fn csr(op: CsrOp, rd: u8, source: u8, number: u16) -> Insn {
+    Insn::Csr {
+        op,
+        rd,
+        source,
+        number,
+    }
+}
+
+fn amo(op: AmoOp, rd: u8, rs1: u8, rs2: u8) -> Insn {
+    Insn::Amo {
+        op,
+        wide: false,
+        aq: false,
+        rl: false,
+        rd,
+        rs1,
+        rs2,
+    }
+}
+
+fn insn_of(kind: Kind, rd: u8, rs1: u8, last: u16) -> Insn {
+    let rs2 = (last & 0xff) as u8;
+    match kind {
+        Kind::Lui => Insn::Lui { rd, imm: 0 },
+        Kind::Auipc => Insn::Auipc { rd, imm: 0 },
+        Kind::Jalr => Insn::Jalr { rd, rs1, imm: 0 },
+        Kind::Beq => Insn::Branch {
+            op: BranchOp::Beq,
+            rs1,
+            rs2,
+            imm: 4,
+        },
+        Kind::Lw => Insn::Load {
+            op: LoadOp::Lw,
+            rd,
+            rs1,
+            imm: 0,
+        },
+        Kind::Ld => Insn::Load {
+            op: LoadOp::Ld,
+            rd,
+            rs1,
+            imm: 0,
+        },
+        Kind::Sw => Insn::Store {
+            op: StoreOp::Sw,
+            rs1,
+            rs2,
+            imm: 0,
+        },
+        Kind::Sd => Insn::Store {
+            op: StoreOp::Sd,
+            rs1,
+            rs2,
+            imm: 0,
+        },
+        Kind::Xor => alu(RegOp::Xor, rd, rs1, rs2),
+        Kind::Add => alu(RegOp::Add, rd, rs1, rs2),
+        Kind::Fence => Insn::Fence {
+            fm: rd,
+            pred: rs1,
+            succ: rs2,
+            rd: 0,
+            rs1: 0,
+        },
+        Kind::Csrrw => csr(CsrOp::Rw, rd, rs1, last),
+        Kind::Csrrs => csr(CsrOp::Rs, rd, rs1, last),
+        Kind::Csrrwi => csr(CsrOp::Rwi, rd, rs1, last),
+        Kind::Lr => Insn::Lr {
+            wide: false,
+            aq: false,
+            rl: false,
+            rd,
+            rs1,
+        },
+        Kind::Sc => Insn::Sc {
+            wide: false,
+            aq: false,
+            rl: false,
+            rd,
+            rs1,
+            rs2,
+        },
+        Kind::Amoadd => amo(AmoOp::Add, rd, rs1, rs2),
+        Kind::Amoswap => amo(AmoOp::Swap, rd, rs1, rs2),
+    }
+}
+
+fn retired_of(row: &InsnRow) -> Retired {
+    Retired {
+        hart: row.1,
+        tag: row.2,
+        insn: insn_of(row.3, row.4, row.5, row.6),
+        stored: row.7,
+    }
+}
+
+fn bytes_of(value: u64, extent: &Extent) -> Option<Bytes8> {
+    let bytes = value.to_le_bytes();
+    Bytes8::new(&bytes[..usize::from(extent.len())])
+}
+
+fn place_of(place: PlaceRow) -> Option<Place> {
+    match place {
+        None => None,
+        Some((time, message, insert)) => Some(Place {
+            time,
+            message,
+            insert,
+        }),
+    }
+}
+
+fn op_of(row: &OpRow) -> Option<Op> {
+    let (addr, len, mask) = row.3;
+    let (kind, acquire, release) = row.2;
+    let extent = Extent::new(addr, len)?;
+    let got = bytes_of((row.4).0, &extent)?;
+    let put = bytes_of((row.4).1, &extent)?;
+    Some(Op {
+        name: name_of(row.1),
+        kind,
+        extent,
+        mask,
+        got,
+        put,
+        acquire,
+        release,
+        place: place_of(row.5),
+    })
+}
+
+fn insns_of(alloc: Global, rows: &[InsnRow], case: u8) -> Result<InsnList, Fail> {
+    let mut list = InsnList::new(alloc);
+    for row in rows {
+        if row.0 == case {
+            list.push(retired_of(row))?;
+        }
+    }
+    Ok(list)
+}
+
+fn ops_of(alloc: Global, rows: &[OpRow], case: u8) -> Result<OpList, Fail> {
+    let mut list = OpList::new(alloc);
+    for row in rows {
+        if row.0 == case {
+            list.push(op_of(row).ok_or("an operation of no form")?)?;
+        }
+    }
+    Ok(list)
+}
+
+/// What is answered to one case of the tables, over memory that is all 0.
+pub fn judged(
+    alloc: Global,
+    case: &CaseRow,
+    insns: &[InsnRow],
+    ops: &[OpRow],
+    early: &[OpRow],
+) -> Result<Judged, Fail> {
+    let trace = Trace {
+        insns: insns_of(alloc, insns, case.0)?,
+        ops: ops_of(alloc, ops, case.0)?,
+        early: ops_of(alloc, early, case.0)?,
+        granule: case.1,
+    };
+    Ok(answer(alloc, &Filled { byte: 0 }, &trace)?)
+}
+
+fn name_of(name: Name) -> OpName {
+    OpName {
+        hart: name.0,
+        tag: name.1,
+        part: name.2,
+    }
+}
+
+/// The answer that a table wants.
+pub fn wanted(want: Want) -> Judged {
+    match want {
+        Want::Legal => Judged::Legal,
+        Want::Pair(name) => Judged::Pair(name_of(name)),
+        Want::Value(name, at, want, got) => Judged::Value {
+            name: name_of(name),
+            at,
+            want,
+            got,
+        },
+        Want::Order(rule, first, second) => Judged::Order {
+            rule,
+            first: name_of(first),
+            second: name_of(second),
+        },
+        Want::Atomicity(name, at, (hart, tag)) => Judged::Atomicity {
+            name: name_of(name),
+            at,
+            store: Origin { hart, tag },
+        },
+    }
+}

@@ -1,0 +1,152 @@
+//! Memory operations.
+ghost use Rattle.std.specs.Prelude.{◌≡◌, slice_index};
+ghost use Rattle.rvwmo_model.specs.Order;
+
+use tandem_base::{Bytes8, Extent, OpName, Place};
+
+/// Whether an operation loads, stores, or is a load and a store at once, as that of an AMO is.
+#[derive(Clone, Copy, Debug, PartialEq, Eq)]
+pub enum OpKind {
+    Load,
+    Store,
+    Both,
+}
+
+/// The annotation of an operation as an acquire or as a release (section 14.1): none, RCpc or RCsc.
+#[derive(Clone, Copy, Debug, PartialEq, Eq)]
+pub enum Ann {
+    None,
+    Rcpc,
+    Rcsc,
+}
+
+/// A memory operation: some of the bytes of one access of one instruction.
+///
+/// Bit k of `mask` is set where byte k of `extent` is one of the operation's. `got` has the bytes that
+/// it loaded and `put` those that it stored, each over the whole extent; bytes outside the mask, and
+/// the list of a kind that the operation doesn't have, are 0. `place` is None for the bytes of a store
+/// that were not performed yet.
+#[derive(Clone, Copy, Debug, PartialEq, Eq)]
+pub struct Op {
+    pub name: OpName,
+    pub kind: OpKind,
+    pub extent: Extent,
+    pub mask: u8,
+    pub got: Bytes8,
+    pub put: Bytes8,
+    pub acquire: Ann,
+    pub release: Ann,
+    pub place: Option<Place>,
+}
+
+#[tactic(auto, unfolding(crate::specs::Order::earlier))]
+fn place_before(a: &Place, b: &Place) -> bool
+    ensures { result ≡ Order.earlier (Order.place_rank a.now) (Order.place_rank b.now) }
+{
+    a.time < b.time
+        || a.time == b.time
+            && (a.message < b.message || a.message == b.message && a.insert < b.insert)
+}
+
+/// Byte `k` of a list, 0 past its end.
+pub(crate) fn byte_of(bytes: &Bytes8, k: u64) -> u8
+    ensures { result ≡ slice_index bytes.now k }
+{
+    if k < u64::from(bytes.len()) {
+        bytes.byte(k as u8)
+    } else {
+        0
+    }
+}
+
+impl OpKind {
+    ghost use Rattle.std.specs.Prelude.{◌≡◌};
+    ghost use Rattle.rvwmo_model.specs.Order;
+
+    /// Whether an operation of this kind loads.
+    pub fn loads(self) -> bool
+        ensures { result ≡ Order.kind_loads self }
+    {
+        match self {
+            OpKind::Load => true,
+            OpKind::Store => false,
+            OpKind::Both => true,
+        }
+    }
+
+    /// Whether an operation of this kind stores.
+    pub fn stores(self) -> bool
+        ensures { result ≡ Order.kind_stores self }
+    {
+        match self {
+            OpKind::Load => false,
+            OpKind::Store => true,
+            OpKind::Both => true,
+        }
+    }
+}
+
+impl Op {
+    ghost use Rattle.std.specs.Prelude.{◌≡◌};
+    ghost use Rattle.rvwmo_model.specs.Order;
+    ghost use Rattle.rvwmo_model.specs.ProgramOrder.{is_older};
+
+    /// Whether the byte at `x` is one of the operation's.
+    pub fn covers(&self, x: u64) -> bool
+        ensures { result ≡ Order.covers x self.now }
+    {
+        let extent = self.extent;
+        extent.addr <= x
+            && x - extent.addr < u64::from(extent.len)
+            && (self.mask >> (x - extent.addr)) & 1 == 1
+    }
+
+    /// Whether the operation loads the byte at `x`.
+    pub fn reads(&self, x: u64) -> bool
+        ensures { result ≡ Order.reads x self.now }
+    {
+        self.kind.loads() && self.covers(x)
+    }
+
+    /// Whether the operation stores to the byte at `x`.
+    pub fn writes(&self, x: u64) -> bool
+        ensures { result ≡ Order.writes x self.now }
+    {
+        self.kind.stores() && self.covers(x)
+    }
+
+    /// Whether this operation comes before another in the global order.
+    #[tactic(auto, unfolding(crate::specs::Order::earlier))]
+    pub fn precedes(&self, other: &Op) -> bool
+        ensures { result ≡ Order.precedes self.now other.now }
+    {
+        match (self.place, other.place) {
+            (Some(p), Some(q)) => place_before(&p, &q),
+            (Some(_p), None) => true,
+            (None, Some(_q)) => false,
+            (None, None) => self.name.hart < other.name.hart
+                || self.name.hart == other.name.hart && self.name.tag < other.name.tag,
+        }
+    }
+
+    /// Whether the instruction of this operation comes before that of another in program order.
+    pub fn is_older(&self, other: &Op) -> bool
+        ensures { result ≡ is_older self.now other.now }
+    {
+        self.name.hart == other.name.hart && self.name.tag < other.name.tag
+    }
+
+    /// What it loaded from the byte at `x`, which it loads.
+    pub(crate) fn got_at(&self, x: u64) -> u8
+        ensures { result ≡ Order.got_at self.now x }
+    {
+        byte_of(&self.got, x.saturating_sub(self.extent.addr))
+    }
+
+    /// What it stored to the byte at `x`, which it stores to.
+    pub(crate) fn put_at(&self, x: u64) -> u8
+        ensures { result ≡ Order.put_at self.now x }
+    {
+        byte_of(&self.put, x.saturating_sub(self.extent.addr))
+    }
+}
