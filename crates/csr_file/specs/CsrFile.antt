@@ -1,9 +1,9 @@
 -- The control and status registers of a hart that has machine mode alone: what each number is, what
 -- a write keeps, and what a trap and MRET do (Unprivileged ISA 20191213, chapters 9 and 10, for the
 -- instructions and the counters; the profile of machine mode is this project's own).
-use Rattle.std.specs.Prelude.{ℕ, ◌+◌, ◌-◌, ◌*◌, ◌/◌, ◌%◌, ◌^◌, ◌==◌, Bool, not, List, [], ◌∷◌, if◌then◌else◌, nat_eq}
+use Rattle.std.specs.Prelude.{ℕ, ◌+◌, ◌-◌, ◌*◌, ◌/◌, ◌%◌, ◌^◌, ◌==◌, Bool, not, if◌then◌else◌, nat_eq}
 use Rattle.std.specs.List.{list_any}
-use Rattle.csr_file.specs.declared.TheConstants.{MSTATUS, MIE, MTVEC, MSCRATCH, MEPC, MCAUSE, MTVAL, MIP, CYCLE, TIME, INSTRET, MHARTID}
+use Rattle.csr_file.specs.Numbers as csr
 use Rattle.csr_file.specs.declared.answers.CsrRead.{CsrRead}
 use Rattle.csr_file.specs.declared.answers.CsrRead.TheVariants as read
 use Rattle.csr_file.specs.declared.answers.CsrWrite.{CsrWrite}
@@ -20,14 +20,8 @@ pub record CsrValues : Type 0 where
   pub mtval : ℕ
   pub mhartid : ℕ
 
--- the numbers of the twelve registers
-abbrev pub numbers : List ℕ
-numbers =
-    MSTATUS ∷ MIE ∷ MTVEC ∷ MSCRATCH ∷ MEPC ∷ MCAUSE ∷ MTVAL ∷ MIP
-    ∷ CYCLE ∷ TIME ∷ INSTRET ∷ MHARTID ∷ []
-
 abbrev pub is_csr : ℕ → Bool
-is_csr number = list_any (nat_eq number) numbers
+is_csr number = list_any (nat_eq number) csr.numbers
 
 -- bits 11:10 are 11
 abbrev pub is_read_only : ℕ → Bool
@@ -57,28 +51,28 @@ mie_kept value = bit 11 value * 2 ^ 11 + bit 7 value * 2 ^ 7 + bit 3 value * 2 ^
 -- what a write of a register keeps of the value
 abbrev pub kept : ℕ → ℕ → ℕ
 kept number value =
-    if number == MSTATUS then mstatus_kept value
-    else if number == MIE then mie_kept value
-    else if number == MTVEC then multiple_of_4 value
-    else if number == MEPC then multiple_of_4 value
-    else if number == MIP then 0
+    if number == csr.mstatus then mstatus_kept value
+    else if number == csr.mie then mie_kept value
+    else if number == csr.mtvec then multiple_of_4 value
+    else if number == csr.mepc then multiple_of_4 value
+    else if number == csr.mip then 0
     else value
 
 -- what a read answers
 abbrev pub read_of : CsrValues → ℕ → CsrRead
 read_of csrs number =
-    if number == MSTATUS then read.Value csrs.mstatus
-    else if number == MIE then read.Value csrs.mie
-    else if number == MTVEC then read.Value csrs.mtvec
-    else if number == MSCRATCH then read.Value csrs.mscratch
-    else if number == MEPC then read.Value csrs.mepc
-    else if number == MCAUSE then read.Value csrs.mcause
-    else if number == MTVAL then read.Value csrs.mtval
-    else if number == MIP then read.Value 0
-    else if number == CYCLE then read.Cycle
-    else if number == TIME then read.Time
-    else if number == INSTRET then read.Instret
-    else if number == MHARTID then read.Value csrs.mhartid
+    if number == csr.mstatus then read.Value csrs.mstatus
+    else if number == csr.mie then read.Value csrs.mie
+    else if number == csr.mtvec then read.Value csrs.mtvec
+    else if number == csr.mscratch then read.Value csrs.mscratch
+    else if number == csr.mepc then read.Value csrs.mepc
+    else if number == csr.mcause then read.Value csrs.mcause
+    else if number == csr.mtval then read.Value csrs.mtval
+    else if number == csr.mip then read.Value 0
+    else if number == csr.cycle then read.Cycle
+    else if number == csr.time then read.Time
+    else if number == csr.instret then read.Instret
+    else if number == csr.mhartid then read.Value csrs.mhartid
     else read.Absent
 
 -- what a write answers
@@ -91,13 +85,13 @@ write_of number value =
 -- the registers after a write; one that isn't done changes nothing
 abbrev pub written : CsrValues → ℕ → ℕ → CsrValues
 written csrs number value =
-    if number == MSTATUS then record csrs { mstatus = kept MSTATUS value }
-    else if number == MIE then record csrs { mie = kept MIE value }
-    else if number == MTVEC then record csrs { mtvec = kept MTVEC value }
-    else if number == MSCRATCH then record csrs { mscratch = value }
-    else if number == MEPC then record csrs { mepc = kept MEPC value }
-    else if number == MCAUSE then record csrs { mcause = value }
-    else if number == MTVAL then record csrs { mtval = value }
+    if number == csr.mstatus then record csrs { mstatus = kept csr.mstatus value }
+    else if number == csr.mie then record csrs { mie = kept csr.mie value }
+    else if number == csr.mtvec then record csrs { mtvec = kept csr.mtvec value }
+    else if number == csr.mscratch then record csrs { mscratch = value }
+    else if number == csr.mepc then record csrs { mepc = kept csr.mepc value }
+    else if number == csr.mcause then record csrs { mcause = value }
+    else if number == csr.mtval then record csrs { mtval = value }
     else csrs
 
 -- the registers at the start

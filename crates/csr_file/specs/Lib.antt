@@ -1,1 +1,2 @@
 pub mod CsrFile
+pub mod Numbers

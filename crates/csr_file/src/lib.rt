@@ -3,6 +3,7 @@
 
 pub mod answers;
 pub mod file;
+pub mod laws;
 
 pub use answers::{CsrRead, CsrWrite};
 pub use file::Csrs;
