@@ -1,5 +1,5 @@
-ghost use Rattle.std.specs.Prelude.{◌≡◌, ◌<◌, ◌^◌};
-ghost use Rattle.rv_decode.specs.Listing.{word_of, IsInsn};
+ghost use Rattle.std.specs.Prelude.{◌≡◌, ◌<◌, ◌^◌, true};
+ghost use Rattle.rv_decode.specs.Listing.{word_of, is_atomic, IsInsn};
 ghost use Rattle.rv_decode.specs.Operations.{imm_word, IsOperand, reg_row};
 ghost use Rattle.rv_decode.specs.Formats.{r_type};
 
@@ -52,6 +52,16 @@ pub fn encode(insn: &Insn) -> u32
             source,
             number,
         } => csr_word(number, source, funct3_of_csr(op), rd),
+        Insn::Lr { .. } | Insn::Sc { .. } | Insn::Amo { .. } => atomic_word(insn),
+    }
+}
+
+fn atomic_word(insn: &Insn) -> u32
+    requires fits { IsInsn insn.now }
+    requires atomic { is_atomic insn.now ≡ true }
+    ensures { result ≡ word_of insn.now }
+{
+    match *insn {
         Insn::Lr {
             wide,
             aq,
@@ -86,6 +96,7 @@ pub fn encode(insn: &Insn) -> u32
                 rd,
             )
         }
+        _ => unreachable!(),
     }
 }
 
