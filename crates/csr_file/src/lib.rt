@@ -7,6 +7,7 @@ pub mod laws;
 
 pub use answers::{CsrRead, CsrWrite};
 pub use file::Csrs;
+pub use laws::csrs_have_their_numbers;
 
 /// The number of mstatus.
 pub const MSTATUS: u16 = 0x300;
