@@ -1,3 +1,5 @@
+mod linked;
+
 use crate::{Image, ImageFault, Ram, TooLarge};
 use std::alloc::{AllocError, Global};
 use std::test::Fail;
