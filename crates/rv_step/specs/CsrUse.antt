@@ -1,7 +1,7 @@
 -- What the CSR instructions read and write (Unprivileged ISA 20191213, sections 9.1 and 10.1).
 use Rattle.std.specs.Prelude.{ℕ, ◌-◌, ◌^◌, ◌==◌, Bool, true, not, ◌&&◌, ◌||◌, bit_and, bit_or}
 use Rattle.csr_file.specs.CsrFile.{is_csr, is_read_only, read_of}
-use Rattle.csr_file.specs.declared.TheConstants.{CYCLE, TIME}
+use Rattle.csr_file.specs.Numbers as csr
 use Rattle.csr_file.specs.declared.answers.CsrRead.{CsrRead}
 use Rattle.csr_file.specs.declared.answers.CsrRead.TheVariants as read
 use Rattle.rv_decode.specs.declared.operations.CsrOp.{CsrOp}
@@ -24,7 +24,7 @@ is_legal_csr op source number = is_csr number && not (writes_csr op source && is
 
 -- the counters whose value is known outside alone
 abbrev pub is_counter : ℕ → Bool
-is_counter number = (number == CYCLE) || (number == TIME)
+is_counter number = (number == csr.cycle) || (number == csr.time)
 
 -- the register, or the immediate
 abbrev pub operand_of : HartState → CsrOp → ℕ → ℕ

@@ -5,7 +5,7 @@ use Rattle.elf_image.specs.Images.{ImageOf, byte_of, word_at}
 use Rattle.rv_decode.specs.Decoding.{decoding}
 use Rattle.rv_decode.specs.declared.instruction.Insn.{Insn}
 use Rattle.rv_decode.specs.declared.instruction.Insn.TheVariants.{Lui, Auipc, Jal, Jalr, Branch, Load, Store, AluImm, Alu, Fence, Ecall, Ebreak, Mret, Wfi, Csr, Lr, Sc, Amo}
-use Rattle.rv_step.specs.declared.causes.TheConstants.{MISALIGNED_FETCH, FETCH_FAULT, ILLEGAL_INSTRUCTION, BREAKPOINT, MISALIGNED_LOAD, LOAD_FAULT, MISALIGNED_STORE, STORE_FAULT, ENVIRONMENT_CALL}
+use Rattle.rv_step.specs.Causes.{misaligned_fetch, fetch_fault, illegal_instruction, breakpoint, misaligned_load, load_fault, misaligned_store, store_fault, environment_call}
 use Rattle.rv_step.specs.declared.plan.Config.{Config}
 use Rattle.rv_step.specs.declared.effect.Outside.{Outside}
 use Rattle.rv_step.specs.declared.plan.Plan.{Plan}
@@ -19,7 +19,7 @@ use Rattle.rv_step.specs.Steps.{Doing, trap, plain, counter, load, store, lr, sc
 
 -- mtval of an illegal instruction is the word, or 0
 abbrev pub illegal : Config → ℕ → Doing
-illegal config word = trap ILLEGAL_INSTRUCTION (if config.mtval_word then word else 0)
+illegal config word = trap illegal_instruction (if config.mtval_word then word else 0)
 
 -- the image has each of the bytes from an address on
 unfoldable pub has_bytes : ImageOf → ℕ → ℕ → Bool
@@ -45,7 +45,7 @@ accessed (Some cause) addr doing = trap cause addr
 
 -- a jump that is taken, or the trap at a target that isn't a multiple of 4
 abbrev pub jumps : Insn → ℕ → Doing
-jumps insn target = if target % 4 == 0 then plain insn else trap MISALIGNED_FETCH target
+jumps insn target = if target % 4 == 0 then plain insn else trap misaligned_fetch target
 
 -- what an instruction is to do; misaligned loads and stores trap where the settings say so, and
 -- misaligned atomic instructions always
@@ -61,17 +61,17 @@ doing_of hart image config word (Branch op rs1 rs2 imm) =
     else plain (Branch op rs1 rs2 imm)
 doing_of hart image config word (Load op rd rs1 imm) =
     let addr = plus (x_of hart rs1) imm in
-    accessed (access_fault image config.traps_misaligned MISALIGNED_LOAD LOAD_FAULT addr (load_size op)) addr
+    accessed (access_fault image config.traps_misaligned misaligned_load load_fault addr (load_size op)) addr
     (load (Load op rd rs1 imm) addr (load_size op))
 doing_of hart image config word (Store op rs1 rs2 imm) =
     let addr = plus (x_of hart rs1) imm in
-    accessed (access_fault image config.traps_misaligned MISALIGNED_STORE STORE_FAULT addr (store_size op)) addr
+    accessed (access_fault image config.traps_misaligned misaligned_store store_fault addr (store_size op)) addr
     (store (Store op rs1 rs2 imm) addr (store_size op))
 doing_of hart image config word (AluImm op rd rs1 imm) = plain (AluImm op rd rs1 imm)
 doing_of hart image config word (Alu op rd rs1 rs2) = plain (Alu op rd rs1 rs2)
 doing_of hart image config word (Fence fm pred succ rd rs1) = plain (Fence fm pred succ rd rs1)
-doing_of hart image config word Ecall = trap ENVIRONMENT_CALL 0
-doing_of hart image config word Ebreak = trap BREAKPOINT 0
+doing_of hart image config word Ecall = trap environment_call 0
+doing_of hart image config word Ebreak = trap breakpoint 0
 doing_of hart image config word Mret = plain Mret
 doing_of hart image config word Wfi = plain Wfi
 doing_of hart image config word (Csr op rd source number) =
@@ -80,15 +80,15 @@ doing_of hart image config word (Csr op rd source number) =
     else plain (Csr op rd source number)
 doing_of hart image config word (Lr wide aq rl rd rs1) =
     let addr = x_of hart rs1 in
-    accessed (access_fault image true MISALIGNED_LOAD LOAD_FAULT addr (atomic_size wide)) addr
+    accessed (access_fault image true misaligned_load load_fault addr (atomic_size wide)) addr
     (lr (Lr wide aq rl rd rs1) addr (atomic_size wide))
 doing_of hart image config word (Sc wide aq rl rd rs1 rs2) =
     let addr = x_of hart rs1 in
-    accessed (access_fault image true MISALIGNED_STORE STORE_FAULT addr (atomic_size wide)) addr
+    accessed (access_fault image true misaligned_store store_fault addr (atomic_size wide)) addr
     (sc (Sc wide aq rl rd rs1 rs2) addr (atomic_size wide))
 doing_of hart image config word (Amo op wide aq rl rd rs1 rs2) =
     let addr = x_of hart rs1 in
-    accessed (access_fault image true MISALIGNED_STORE STORE_FAULT addr (atomic_size wide)) addr
+    accessed (access_fault image true misaligned_store store_fault addr (atomic_size wide)) addr
     (amo (Amo op wide aq rl rd rs1 rs2) addr (atomic_size wide))
 
 -- what a word is to do, by the instruction that it encodes
@@ -102,7 +102,7 @@ pub record PlanOf : Type 0 where
   pub doing : Doing
 
 abbrev pub plan_fetched : HartState → ImageOf → Config → Option ℕ → PlanOf
-plan_fetched hart image config None = record { word = 0; doing = trap FETCH_FAULT hart.pc }
+plan_fetched hart image config None = record { word = 0; doing = trap fetch_fault hart.pc }
 plan_fetched hart image config (Some word) =
     record { word = word; doing = doing_word hart image config word (decoding word) }
 

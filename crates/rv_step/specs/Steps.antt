@@ -5,13 +5,13 @@ use Rattle.std.specs.Int.{w64, cast_unsigned}
 use Rattle.tandem_base.specs.Bytes.{number_of}
 use Rattle.tandem_base.specs.Signs.{sext_of}
 use Rattle.csr_file.specs.CsrFile.{kept, written, trapped, returned}
-use Rattle.csr_file.specs.declared.TheConstants.{MSTATUS, MEPC, MCAUSE, MTVAL}
+use Rattle.csr_file.specs.Numbers as csr
 use Rattle.msg_frames.specs.declared.csrs.CsrValue.{CsrValue}
 use Rattle.msg_frames.specs.declared.message.RdValue.{RdValue}
 use Rattle.rv_decode.specs.declared.operations.CsrOp.{CsrOp}
 use Rattle.rv_decode.specs.declared.instruction.Insn.{Insn}
 use Rattle.rv_decode.specs.declared.instruction.Insn.TheVariants.{Lui, Auipc, Jal, Jalr, Branch, Load, Store, AluImm, Alu, Fence, Ecall, Ebreak, Mret, Wfi, Csr, Lr, Sc, Amo}
-use Rattle.rv_step.specs.declared.causes.TheConstants.{BREAKPOINT, ENVIRONMENT_CALL}
+use Rattle.rv_step.specs.Causes.{breakpoint, environment_call}
 use Rattle.rv_step.specs.declared.effect.Effect.{Effect}
 use Rattle.rv_step.specs.declared.effect.Outside.{Outside}
 use Rattle.rv_step.specs.Harts.{HartState, x_of, with_x, plus, next_of}
@@ -73,8 +73,8 @@ traps hart cause value =
       effect = record {
         next = csrs.mtvec;
         rd = None;
-        csrs = csr_value MSTATUS csrs.mstatus ∷ csr_value MEPC csrs.mepc ∷ csr_value MCAUSE csrs.mcause
-            ∷ csr_value MTVAL csrs.mtval ∷ [];
+        csrs = csr_value csr.mstatus csrs.mstatus ∷ csr_value csr.mepc csrs.mepc ∷ csr_value csr.mcause csrs.mcause
+            ∷ csr_value csr.mtval csrs.mtval ∷ [];
         store = None;
         trap = Some cause;
       };
@@ -88,7 +88,7 @@ returns hart =
       effect = record {
         next = csrs.mepc;
         rd = None;
-        csrs = csr_value MSTATUS csrs.mstatus ∷ [];
+        csrs = csr_value csr.mstatus csrs.mstatus ∷ [];
         store = None;
         trap = None;
       };
@@ -129,8 +129,8 @@ executed hart outside (Alu op rd rs1 rs2) =
 -- section 2.7: a FENCE does nothing to registers
 executed hart outside (Fence fm pred succ rd rs1) = goes hart (next_of hart)
 -- section 2.8: ECALL and EBREAK
-executed hart outside Ecall = traps hart ENVIRONMENT_CALL 0
-executed hart outside Ebreak = traps hart BREAKPOINT 0
+executed hart outside Ecall = traps hart environment_call 0
+executed hart outside Ebreak = traps hart breakpoint 0
 -- Volume II: MRET and WFI
 executed hart outside Mret = returns hart
 executed hart outside Wfi = goes hart (next_of hart)

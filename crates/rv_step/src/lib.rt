@@ -10,11 +10,13 @@ mod csr_use;
 mod effect;
 mod hart;
 mod integers;
+mod laws;
 mod memory;
 mod plan;
 
 pub use effect::{Effect, Outside};
 pub use hart::Hart;
+pub use laws::causes_have_their_numbers;
 pub use plan::{Config, Plan, What};
 
 #[cfg(test)]

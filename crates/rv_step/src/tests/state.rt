@@ -11,7 +11,7 @@ pub const ACCESSES: [(
     (u64, u8),
     Option<u64>,
     Option<(u64, u64, u8)>,
-); 29] = [
+); 32] = [
     // lb x3,0(x1)
     (
         0x8183,
@@ -172,6 +172,33 @@ pub const ACCESSES: [(
         (0x8000_0000, 4),
         Some(0xffff_ffff_8000_0000),
         Some((0x8000_1000, 0x8000_0000, 4)),
+    ),
+    // amoxor.d x3,x2,(x1)
+    (
+        0x2020_b1af,
+        0x8000_1000,
+        0xff00_ff00_ff00_ff00,
+        (0x0ff0_0ff0_0ff0_0ff0, 8),
+        Some(0x0ff0_0ff0_0ff0_0ff0),
+        Some((0x8000_1000, 0xf0f0_f0f0_f0f0_f0f0, 8)),
+    ),
+    // amoand.w x3,x2,(x1)
+    (
+        0x6020_a1af,
+        0x8000_1000,
+        0x7fff_ffff_f0f0_f0f0,
+        (0xff00_ff00, 4),
+        Some(0xffff_ffff_ff00_ff00),
+        Some((0x8000_1000, 0xf000_f000, 4)),
+    ),
+    // amoor.d x3,x2,(x1)
+    (
+        0x4020_b1af,
+        0x8000_1000,
+        0x8000_0000_0000_0001,
+        (0x0000_0001_8000_0000, 8),
+        Some(0x0000_0001_8000_0000),
+        Some((0x8000_1000, 0x8000_0001_8000_0001, 8)),
     ),
     // amomin.w x3,x2,(x1)
     (
