@@ -39,25 +39,19 @@ impl Hart {
         ensures hart { self.new ≡ (executed self.old outside.now insn.now).hart }
         ensures effect { result ≡ (executed self.old outside.now insn.now).effect }
     {
+        let pc = self.pc;
         let next = self.next();
         match *insn {
             Insn::Lui { rd, imm } => self.write(next, rd, imm.cast_unsigned()),
-            Insn::Auipc { rd, imm } => {
-                let value = self.pc.wrapping_add_signed(imm);
-                self.write(next, rd, value)
-            }
-            Insn::Jal { rd, imm } => {
-                let target = self.pc.wrapping_add_signed(imm);
-                self.write(target, rd, next)
-            }
+            Insn::Auipc { rd, imm } => self.write(next, rd, pc.wrapping_add_signed(imm)),
+            Insn::Jal { rd, imm } => self.write(pc.wrapping_add_signed(imm), rd, next),
             Insn::Jalr { rd, rs1, imm } => {
                 let target = even(self.x(rs1).wrapping_add_signed(imm));
                 self.write(target, rd, next)
             }
             Insn::Branch { op, rs1, rs2, imm } => {
                 if taken(op, self.x(rs1), self.x(rs2)) {
-                    let target = self.pc.wrapping_add_signed(imm);
-                    self.go(target)
+                    self.go(pc.wrapping_add_signed(imm))
                 } else {
                     self.go(next)
                 }
@@ -70,8 +64,7 @@ impl Hart {
                 let value = alu(op, self.x(rs1), self.x(rs2));
                 self.write(next, rd, value)
             }
-            Insn::Fence { .. } => self.go(next),
-            Insn::Wfi => self.go(next),
+            Insn::Fence { .. } | Insn::Wfi => self.go(next),
             Insn::Mret => self.mret(),
             Insn::Csr {
                 op,

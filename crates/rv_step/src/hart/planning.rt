@@ -3,6 +3,7 @@
 ghost use Rattle.std.specs.Prelude.{◌≡◌, ℕ, true};
 ghost use Rattle.rv_decode.specs.Decoding.{decoding};
 ghost use Rattle.rv_decode.specs.Listing.{IsInsn};
+ghost use Rattle.rv_step.specs.Steps.{trap};
 ghost use Rattle.rv_step.specs.Plans.{Suits, accesses, doing_of, doing_seen, doing_word, illegal, jumps, plan_of, plan_seen};
 
 use super::Hart;
@@ -67,14 +68,8 @@ impl Hart {
                     What::Plain(insn)
                 }
             }
-            Insn::Ecall => What::Trap {
-                cause: ENVIRONMENT_CALL,
-                value: 0,
-            },
-            Insn::Ebreak => What::Trap {
-                cause: BREAKPOINT,
-                value: 0,
-            },
+            Insn::Ecall => raised(ENVIRONMENT_CALL),
+            Insn::Ebreak => raised(BREAKPOINT),
             Insn::Csr {
                 op,
                 source,
@@ -124,6 +119,13 @@ impl Hart {
             _ => unreachable!(),
         }
     }
+}
+
+/// A trap that leaves 0 in mtval.
+fn raised(cause: u8) -> What
+    ensures { doing_seen result ≡ trap cause 0 }
+{
+    What::Trap { cause, value: 0 }
 }
 
 /// The trap of a word that is no legal instruction.

@@ -11,7 +11,7 @@ pub const ACCESSES: [(
     (u64, u8),
     Option<u64>,
     Option<(u64, u64, u8)>,
-); 32] = [
+); 33] = [
     // lb x3,0(x1)
     (
         0x8183,
@@ -127,6 +127,15 @@ pub const ACCESSES: [(
         (0x8000_0000, 4),
         Some(0xffff_ffff_8000_0000),
         Some((0x8000_1000, 1, 4)),
+    ),
+    // amoswap.d x3,x2,(x1)
+    (
+        0x820_b1af,
+        0x8000_1000,
+        0xdead_beef_0000_0001,
+        (0x8000_0000_0000_0000, 8),
+        Some(0x8000_0000_0000_0000),
+        Some((0x8000_1000, 0xdead_beef_0000_0001, 8)),
     ),
     // amoadd.w x3,x2,(x1)
     (
