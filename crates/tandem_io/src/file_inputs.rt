@@ -10,8 +10,9 @@ use std::rt::Files;
 /// Inputs that are the files of the runtime. It reads 64 KiB of a file at a time, whatever its
 /// callers ask for, and takes no memory.
 ///
-/// It tells nothing of names and contents. Attaching answers false where opening says that no such
-/// file is there, and each other error is a fault.
+/// It tells no names, and of contents what the files of the runtime tell: files of the system tell
+/// nothing. Attaching answers false where opening says that no such file is there, and each other
+/// error is a fault.
 #[derive(Drop)]
 pub struct FileInputs<'a, R: Files> {
     rt: &'a R,
@@ -43,9 +44,9 @@ impl<'a, R: Files> FileInputs<'a, R> {
 }
 
 impl<R: Files> Source for FileInputs<'_, R> {
-    ghost use Rattle.tandem_io.specs.FileSlot.{untold_aside};
+    ghost use Rattle.tandem_io.specs.FileSlot.{aside_of_files};
 
-    ghost left = { λ _. None };
+    ghost left = { λ f. f.stream.left };
 
     ghost log = { λ _. None };
 
@@ -53,7 +54,7 @@ impl<R: Files> Source for FileInputs<'_, R> {
 
     ghost faults = { λ f. f.stream.faults };
 
-    ghost aside = { untold_aside };
+    ghost aside = { aside_of_files };
 
     fn read(&mut self, buf: &mut [u8]) -> Result<usize, Failed> {
         self.stream.read(buf)

@@ -1,4 +1,6 @@
-ghost use Rattle.std.specs.Prelude.{◌≡◌, ◌+◌, ◌-◌, ◌<◌, ◌≤◌, length, min, nat_eq, IfOk};
+ghost use Rattle.std.specs.Prelude.{◌≡◌, ◌+◌, ◌-◌, ◌<◌, ◌≤◌, [], ◌++◌, length, min, nat_eq, take, drop, IfOk, OnOk, OnErr};
+ghost use Rattle.std.specs.Io.{ReadsAtMost};
+ghost use Rattle.std.specs.Io.KnownBytes.{Consumes, IsAtEnd, Keeps};
 
 use std::io::{self, Read};
 
@@ -19,7 +21,7 @@ impl Window {
     ghost use Rattle.tandem_io.specs.Window.{unread_in};
 
     pub(super) fn new() -> Window
-        ensures { unread_in result ≡ 0 }
+        ensures { unread_in result ≡ [] }
     {
         Window {
             bytes: [0; PIECE],
@@ -29,31 +31,40 @@ impl Window {
     }
 
     pub(super) fn is_empty(&self) -> bool
-        ensures { result ≡ nat_eq (unread_in self.now) 0 }
+        ensures { result ≡ nat_eq (length (unread_in self.now)) 0 }
     {
         self.start == self.end
     }
 
     /// Drops what was not given on.
     pub(super) fn clear(&mut self)
-        ensures { unread_in self.new ≡ 0 }
+        ensures { unread_in self.new ≡ [] }
     {
         self.start = 0;
         self.end = 0;
     }
 
-    /// Reads the next piece into the window, which is empty.
-    pub(super) fn fill<F: Read>(&mut self, file: &mut F) -> io::Result<()> {
+    /// Reads the next piece in place of what was not given on. Where the read fails, the window is
+    /// empty.
+    pub(super) fn fill<F: Read>(&mut self, file: &mut F) -> io::Result<()>
+        ensures ok { OnOk result (Consumes (F.remaining file.old) (F.remaining file.new) (unread_in self.new)) }
+        ensures end { OnOk result (unread_in self.new ≡ [] → IsAtEnd (F.remaining file.new)) }
+        ensures err { OnErr result (Keeps (F.remaining file.old) (F.remaining file.new)) }
+        ensures empty { OnErr result (unread_in self.new ≡ []) }
+    {
         self.start = 0;
         self.end = 0;
         self.end = read_piece(file, &mut self.bytes)?;
         Ok(())
     }
 
-    /// Gives on as many bytes as it can, and answers how many.
+    /// Gives on as many bytes as it can, the first of those that were not given on, and answers how
+    /// many.
     pub(super) fn give(&mut self, buf: &mut [u8]) -> usize
-        ensures count { result ≡ min (length buf.old) (unread_in self.old) }
-        ensures rest { unread_in self.new + result ≡ unread_in self.old }
+        ensures count { result ≡ min (length buf.old) (length (unread_in self.old)) }
+        ensures given { take result buf.new ≡ take result (unread_in self.old) }
+        ensures beyond { drop result buf.new ≡ drop result buf.old }
+        ensures rest { unread_in self.new ≡ drop result (unread_in self.old) }
     {
         let n = buf.len().min(self.end - self.start);
         let bytes = &self.bytes[..];
@@ -64,7 +75,11 @@ impl Window {
 }
 
 fn read_piece<F: Read>(file: &mut F, bytes: &mut [u8; PIECE]) -> io::Result<usize>
-    ensures { IfOk result (λ n. n ≤ 65536) }
+    ensures within { ReadsAtMost result bytes.new }
+    ensures most { IfOk result (λ n. n ≤ 65536) }
+    ensures ok { IfOk result (λ n. Consumes (F.remaining file.old) (F.remaining file.new) (take n bytes.new)) }
+    ensures end { IfOk result (λ n. n ≡ 0 → IsAtEnd (F.remaining file.new)) }
+    ensures err { OnErr result (Keeps (F.remaining file.old) (F.remaining file.new)) }
 {
     file.read(&mut bytes[..])
 }
