@@ -1,16 +1,15 @@
 -- What is answered where no count of faults rose.
-use Rattle.std.proofs.Common.{◌≡◌, ℕ, ◌-◌, ◌^◌, ◌<◌, ◌≤◌, ◌⊎◌, inl, inr, List, [], sym, ap, subst, ◌∙◌, arith, Option, None, Some, Ok}
+use Rattle.std.proofs.Common.{◌≡◌, ℕ, ◌-◌, ◌^◌, ◌<◌, ◌≤◌, inl, inr, List, sym, ap, subst, ◌∙◌, arith, Option, None, Some}
 use Rattle.std.specs.Prelude.{IfSome}
 use Rattle.std.specs.Io.KnownBytes.{Appends}
 use Rattle.tandem_io.specs.declared.types.Slot.TheVariants as slot
 use Rattle.tandem_io.specs.Causes.{Rose}
-use Rattle.tandem_io.specs.Inputs.{Named, Slots, content_of}
-use Rattle.tandem_core.specs.Judgements.{judgement}
+use Rattle.tandem_io.specs.Inputs.{Named, Slots}
 use Rattle.verdict_report.specs.declared.verdict.Verdict.{Verdict}
 use Rattle.tandem_cli.specs.declared.outcome.Outcome.{Outcome}
 use Rattle.tandem_cli.specs.declared.outcome.Outcome.TheVariants as outcome
 use Rattle.tandem_cli.specs.Words.{Asked}
-use Rattle.tandem_cli.specs.Checks.{meaning_of, answer_of, answer_to_file, answer_to_image, answer_to_stream, IsJudged, OutcomeIs, Caused}
+use Rattle.tandem_cli.specs.Checks.{answer_of, answer_to_file, answer_to_image, answer_to_stream, IsJudged, OutcomeIs, Caused}
 use Rattle.tandem_cli.specs.Answers.{line_for, status_for, Prints, Answers, IsQuiet, Settled, refused, answered}
 
 -- a count that didn't rise
@@ -31,8 +30,8 @@ settle asked names slots' result old new o is status line says =
 verdict_is : (asked : Asked) (names : List Named) (v : Verdict) (left : Option (List ℕ)) → IsJudged asked names v left →
     answer_of asked names ≡ outcome.Judged v
 verdict_is asked names v left judged =
-    ap (λ (found : Option (List ℕ)). answer_to_file asked names found) judged.there.file
-    ∙ ap (answer_to_image asked names) judged.there.meaning
+    ap (λ (found : Option (List ℕ)). answer_to_file asked names found) judged.there.accepted.file
+    ∙ ap (answer_to_image asked names) judged.there.accepted.meaning
     ∙ ap (λ (found : Option (List ℕ)). answer_to_stream asked judged.image found) judged.there.stream_is
     ∙ ap outcome.Judged judged.verdict
 
@@ -45,11 +44,11 @@ settled_by asked names slots slots' result old new before after (outcome.Missing
 settled_by asked names slots slots' result old new before after (outcome.Unopened slot.Image) is caused quiet status line =
     absurd (not_risen slots.image.faults slots'.image.faults quiet.image.0 quiet.image.1 caused.0)
 settled_by asked names slots slots' result old new before after (outcome.Unopened slot.Stream) is caused quiet status line =
-    absurd (not_risen slots.stream.faults slots'.stream.faults quiet.stream.0 quiet.stream.1 caused)
+    absurd (not_risen slots.stream.faults slots'.stream.faults quiet.stream.0 quiet.stream.1 caused.0)
 settled_by asked names slots slots' result old new before after (outcome.Unread slot.Image) is caused quiet status line =
     absurd (not_risen slots.image.faults slots'.image.faults quiet.image.0 quiet.image.1 caused.0)
 settled_by asked names slots slots' result old new before after (outcome.Unread slot.Stream) is caused quiet status line =
-    absurd (not_risen slots.stream.faults slots'.stream.faults quiet.stream.0 quiet.stream.1 caused)
+    absurd (not_risen slots.stream.faults slots'.stream.faults quiet.stream.0 quiet.stream.1 caused.0)
 settled_by asked names slots slots' result old new before after (outcome.Refused fault) is caused quiet status line =
     settle asked names slots' result old new (outcome.Refused fault) is status line is
 settled_by asked names slots slots' result old new before after (outcome.Judged v) is caused quiet status line =

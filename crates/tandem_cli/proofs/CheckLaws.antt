@@ -1,17 +1,16 @@
 -- What the readings of the inputs come to.
-use Rattle.std.proofs.Common.{◌≡◌, ℕ, ◌+◌, ◌<◌, ◌≤◌, ◌⊎◌, inl, inr, List, [], ◌++◌, length, drop, refl, sym, ap, subst, ◌∙◌, arith, Option, None, Some, Result, Ok, Err, IsOkAnd, append-nil, length-append}
+use Rattle.std.proofs.Common.{◌≡◌, ℕ, ◌<◌, ◌⊎◌, inl, inr, List, ◌++◌, length, drop, refl, sym, ap, subst, ◌∙◌, arith, Option, None, Some, Result, Ok, Err, IsOkAnd, append-nil, length-append}
 use Rattle.std.specs.Prelude.{nat_lt, Bool, true, false, is_some, IfSome, MatchBool}
 use Rattle.std.specs.Io.KnownBytes.{Consumes, Keeps, IsAtEnd}
 use Rattle.std.proofs.Math.Seq.{drop-append_seam}
 use Rattle.std.proofs.lemmas.Bool.{lt-ltb, cond-true}
 use Rattle.tandem_io.specs.declared.types.Slot.TheVariants as slot
 use Rattle.tandem_io.specs.Inputs.{Named, content_of}
-use Rattle.elf_image.specs.declared.ram.Ram.{Ram}
 use Rattle.elf_image.specs.declared.fault.ImageFault.{ImageFault}
 use Rattle.elf_image.specs.declared.fault.ImageFault.TheVariants as image_fault
 use Rattle.elf_image.specs.declared.fault.TooLarge.TheVariants as limit
 use Rattle.elf_image.specs.Images.{ImageOf, SameImage}
-use Rattle.elf_image.specs.Faults.{Reads, refuse, file_fault}
+use Rattle.elf_image.specs.Faults.{Reads, file_fault}
 use Rattle.verdict_report.specs.declared.verdict.Verdict.{Verdict}
 use Rattle.tandem_core.specs.Judgements.{Judgement, judgement}
 use Rattle.tandem_core.specs.Judged.{Decides, Lacks}
@@ -20,7 +19,7 @@ use Rattle.tandem_cli.specs.declared.outcome.Outcome.{Outcome}
 use Rattle.tandem_cli.specs.declared.outcome.Outcome.TheVariants as outcome
 use Rattle.tandem_cli.specs.Options.{Chosen}
 use Rattle.tandem_cli.specs.Words.{Asked}
-use Rattle.tandem_cli.specs.Checks.{meaning_at, meaning_of, answer_of, answer_to_file, answer_to_image, answer_to_stream, AreThere, OutcomeIs, ImageIs, StreamIs, refusal_of, outcome_read}
+use Rattle.tandem_cli.specs.Checks.{meaning_at, meaning_of, answer_of, answer_to_file, answer_to_image, answer_to_stream, OutcomeIs, ImageIs, StreamIs, refusal_of, outcome_read}
 
 -- ---- an image that was read whole, or as far as one is read
 
@@ -125,7 +124,8 @@ joined_at asked names bytes image (Ok described) (outcome.Missing slot.Stream) l
     found_image asked names bytes image described there means
     ∙ ap (λ (found : Option (List ℕ)). answer_to_stream asked described found) is
 joined_at asked names bytes image (Ok described) (outcome.Unopened slot.Image) left there means same is = absurd is
-joined_at asked names bytes image (Ok described) (outcome.Unopened slot.Stream) left there means same is = tt
+joined_at asked names bytes image (Ok described) (outcome.Unopened slot.Stream) left there means same is =
+    (described, record { bytes = bytes; file = there; meaning = means })
 joined_at asked names bytes image (Ok described) (outcome.Unread slot.Image) left there means same is = absurd is
 joined_at asked names bytes image (Ok described) (outcome.Unread slot.Stream) left there means same (stream, got, rest, found, parts, left_is, lacks) =
     record {
@@ -133,7 +133,7 @@ joined_at asked names bytes image (Ok described) (outcome.Unread slot.Stream) le
       stream = stream;
       got = got;
       rest = rest;
-      there = record { bytes = bytes; file = there; meaning = means; stream_is = found };
+      there = record { accepted = record { bytes = bytes; file = there; meaning = means }; stream_is = found };
       stream_is = parts;
       left_is = left_is;
       lacks = lacks_same image described same asked.options.limits got lacks;
@@ -147,7 +147,7 @@ joined_at asked names bytes image (Ok described) (outcome.Judged v) left there m
     record {
       image = described;
       stream = stream;
-      there = record { bytes = bytes; file = there; meaning = means; stream_is = found };
+      there = record { accepted = record { bytes = bytes; file = there; meaning = means }; stream_is = found };
       verdict = ap (λ (j : Judgement). j.verdict) same_judgement;
       left_is = left_is ∙ ap (λ (b : List ℕ). Some b) (sym after)
           ∙ ap (λ (j : Judgement). Some (drop j.taken stream)) (sym same_judgement);

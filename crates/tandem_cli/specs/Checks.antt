@@ -1,9 +1,8 @@
 -- What `tandem check` is to answer, and what an outcome says.
-use Rattle.std.specs.Prelude.{ℕ, ◌≡◌, ◌≤◌, ◌++◌, Bool, false, List, drop, length, Option, Some, None, Result, Ok, Err, IsOkAnd}
-use Rattle.tandem_io.specs.declared.types.Slot.{Slot}
+use Rattle.std.specs.Prelude.{ℕ, ◌≡◌, ◌≤◌, ◌++◌, true, false, List, drop, length, Option, Some, None, Result, Ok, Err, IsOkAnd}
 use Rattle.tandem_io.specs.declared.types.Slot.TheVariants as slot
 use Rattle.tandem_io.specs.Causes.{Rose}
-use Rattle.tandem_io.specs.Inputs.{Named, Slots, view_of, content_of}
+use Rattle.tandem_io.specs.Inputs.{Named, SlotView, Slots, content_of}
 use Rattle.elf_image.specs.declared.fault.ImageFault.{ImageFault}
 use Rattle.elf_image.specs.declared.fault.ImageFault.TheVariants as image_fault
 use Rattle.elf_image.specs.Images.{ImageOf, SameImage}
@@ -42,11 +41,15 @@ answer_to_file asked names (Some bytes) = answer_to_image asked names (meaning_o
 abbrev pub answer_of : Asked → List Named → Outcome
 answer_of asked names = answer_to_file asked names (content_of names asked.image)
 
--- the image that is asked for, and the bytes of the stream
-pub record AreThere (asked : Asked) (names : List Named) (image : ImageOf) (stream : List ℕ) : Type 0 where
+-- the image that is asked for is there, and this is what its bytes mean
+pub record IsAccepted (asked : Asked) (names : List Named) (image : ImageOf) : Type 0 where
   pub bytes : List ℕ
   pub file : content_of names asked.image ≡ Some bytes
   pub meaning : meaning_of asked.options bytes ≡ Ok image
+
+-- the image that is asked for, and the bytes of the stream
+pub record AreThere (asked : Asked) (names : List Named) (image : ImageOf) (stream : List ℕ) : Type 0 where
+  pub accepted : IsAccepted asked names image
   pub stream_is : content_of names asked.stream ≡ Some stream
 
 -- the verdict on the stream, of which just what follows the frame of the verdict is left
@@ -71,24 +74,33 @@ pub record IsUnread (asked : Asked) (names : List Named) (left : Option (List �
 -- what an outcome says of inputs that tell their names, and of what is left of the stream
 abbrev pub OutcomeIs : Asked → List Named → Outcome → Option (List ℕ) → Type 0
 OutcomeIs asked names (outcome.Missing missing) left = answer_of asked names ≡ outcome.Missing missing
-OutcomeIs asked names (outcome.Unopened unopened) left = Unit {0}
+OutcomeIs asked names (outcome.Unopened slot.Image) left = Unit {0}
+OutcomeIs asked names (outcome.Unopened slot.Stream) left = (image : ImageOf) × IsAccepted asked names image
 OutcomeIs asked names (outcome.Unread slot.Image) left = Unit {0}
 OutcomeIs asked names (outcome.Unread slot.Stream) left = IsUnread asked names left
 OutcomeIs asked names (outcome.Refused fault) left = answer_of asked names ≡ outcome.Refused fault
 OutcomeIs asked names (outcome.Judged v) left = IsJudged asked names v left
 OutcomeIs asked names outcome.Memory left = Unit {0}
 
--- only the image's slot was touched, and this was its cause
+-- the image was found, and its last read answered that nothing is left of it
+pub record IsReadWhole (image : SlotView) : Type 0 where
+  pub attached : image.attached ≡ Some true
+  pub ended : image.ended ≡ true
+
+-- The cause of an outcome. One on the image leaves the stream's slot as it was, and one on the stream comes only after
+-- the image was read whole.
 abbrev pub Caused : Outcome → Slots → Slots → Type 0
 Caused (outcome.Missing slot.Image) before after = (after.image.attached ≡ Some false) × (after.stream ≡ before.stream)
-Caused (outcome.Missing slot.Stream) before after = after.stream.attached ≡ Some false
+Caused (outcome.Missing slot.Stream) before after = (after.stream.attached ≡ Some false) × IsReadWhole after.image
 Caused (outcome.Unopened slot.Image) before after = Rose before.image.faults after.image.faults × (after.stream ≡ before.stream)
-Caused (outcome.Unopened slot.Stream) before after = Rose before.stream.faults after.stream.faults
-Caused (outcome.Unread slot.Image) before after = Rose before.image.faults after.image.faults × (after.stream ≡ before.stream)
-Caused (outcome.Unread slot.Stream) before after = Rose before.stream.faults after.stream.faults
-Caused (outcome.Refused fault) before after = after.stream ≡ before.stream
-Caused (outcome.Judged v) before after = Unit {0}
-Caused outcome.Memory before after = Unit {0}
+Caused (outcome.Unopened slot.Stream) before after = Rose before.stream.faults after.stream.faults × IsReadWhole after.image
+Caused (outcome.Unread slot.Image) before after =
+    Rose before.image.faults after.image.faults × (after.image.attached ≡ Some true) × (after.stream ≡ before.stream)
+Caused (outcome.Unread slot.Stream) before after =
+    Rose before.stream.faults after.stream.faults × (after.stream.attached ≡ Some true) × IsReadWhole after.image
+Caused (outcome.Refused fault) before after = (after.image.attached ≡ Some true) × (after.stream ≡ before.stream)
+Caused (outcome.Judged v) before after = (after.stream.attached ≡ Some true) × IsReadWhole after.image
+Caused outcome.Memory before after = after.stream ≡ before.stream
 
 -- no count of faults falls
 pub record CountsStand (before after : Slots) : Type 0 where
@@ -109,10 +121,22 @@ ImageIs asked names (Err (outcome.Refused fault)) = answer_of asked names ≡ ou
 ImageIs asked names (Err (outcome.Judged v)) = ⊥
 ImageIs asked names (Err outcome.Memory) = Unit {0}
 
--- the cause of an answer on the image that isn't one
+-- the cause of an answer on the image: it was read whole, or this is why there is none
 abbrev pub ImageCaused : Result ImageOf Outcome → Slots → Slots → Type 0
-ImageCaused (Ok image) before after = Unit {0}
+ImageCaused (Ok image) before after = IsReadWhole after.image
 ImageCaused (Err o) before after = Caused o before after
+
+-- the cause of an outcome on the stream
+abbrev pub StreamCaused : Outcome → SlotView → SlotView → Type 0
+StreamCaused (outcome.Missing slot.Image) before after = ⊥
+StreamCaused (outcome.Missing slot.Stream) before after = after.attached ≡ Some false
+StreamCaused (outcome.Unopened slot.Image) before after = ⊥
+StreamCaused (outcome.Unopened slot.Stream) before after = Rose before.faults after.faults
+StreamCaused (outcome.Unread slot.Image) before after = ⊥
+StreamCaused (outcome.Unread slot.Stream) before after = Rose before.faults after.faults × (after.attached ≡ Some true)
+StreamCaused (outcome.Refused fault) before after = ⊥
+StreamCaused (outcome.Judged v) before after = after.attached ≡ Some true
+StreamCaused outcome.Memory before after = ⊥
 
 -- why there is no image: a fault of the file, or that memory was refused
 abbrev pub refusal_of : ImageFault → Outcome

@@ -1,5 +1,5 @@
 -- An input that is read whole.
-use Rattle.std.specs.Prelude.{ℕ, ◌≡◌, ◌≤◌, ◌⊎◌, List, length, Option}
+use Rattle.std.specs.Prelude.{ℕ, ◌≡◌, ◌≤◌, ◌⊎◌, Bool, true, List, length, Option}
 use Rattle.std.specs.Io.KnownBytes.{Consumes, IsAtEnd}
 use Rattle.tandem_cli.specs.declared.intake.Whole.{Whole}
 use Rattle.tandem_cli.specs.declared.intake.Whole.TheVariants.{Bytes, Failed, Memory}
@@ -10,3 +10,9 @@ WholeIs (Bytes bytes) left left' =
     Consumes left left' bytes.items × (length bytes.items ≤ 268435457) × (IsAtEnd left' ⊎ (length bytes.items ≡ 268435457))
 WholeIs Failed left left' = Unit {0}
 WholeIs Memory left left' = Unit {0}
+
+-- a read answered that nothing is left, or as many bytes were taken as are read at most
+abbrev pub WholeEnds : Whole → Bool → Type 0
+WholeEnds (Bytes bytes) ended = (ended ≡ true) ⊎ (length bytes.items ≡ 268435457)
+WholeEnds Failed ended = Unit {0}
+WholeEnds Memory ended = Unit {0}

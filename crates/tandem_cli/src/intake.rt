@@ -2,7 +2,7 @@
 ghost use Rattle.std.specs.Prelude.{◌≡◌, ◌<◌, ◌≤◌, length};
 ghost use Rattle.tandem_io.specs.Causes.{Rose};
 ghost use Rattle.tandem_io.specs.Inputs.{slots_of};
-ghost use Rattle.tandem_cli.specs.Intake.{WholeIs};
+ghost use Rattle.tandem_cli.specs.Intake.{WholeEnds, WholeIs};
 
 use std::alloc::Global;
 use tandem_io::{Failed, Inputs};
@@ -28,6 +28,7 @@ pub enum Whole {
 /// Nothing else of the inputs changes.
 pub fn read_whole<I: Inputs>(alloc: Global, ins: &mut I) -> Whole
     ensures bytes { WholeIs result (I.aside ins.old).image.left (I.aside ins.new).image.left }
+    ensures ends { WholeEnds result (I.aside ins.new).image.ended }
     ensures count { (I.aside ins.old).image.faults ≤ (I.aside ins.new).image.faults }
     ensures cause { result ≡ Whole.Failed → Rose (I.aside ins.old).image.faults (I.aside ins.new).image.faults }
     ensures attached { (I.aside ins.new).image.attached ≡ (I.aside ins.old).image.attached }
@@ -45,6 +46,7 @@ pub fn read_whole<I: Inputs>(alloc: Global, ins: &mut I) -> Whole
 fn read_by<I: Inputs>(alloc: Global, ins: &mut I, piece: &mut [u8]) -> Whole
     requires { 0 < length piece.old }
     ensures bytes { WholeIs result (I.aside ins.old).image.left (I.aside ins.new).image.left }
+    ensures ends { WholeEnds result (I.aside ins.new).image.ended }
     ensures count { (I.aside ins.old).image.faults ≤ (I.aside ins.new).image.faults }
     ensures cause { result ≡ Whole.Failed → Rose (I.aside ins.old).image.faults (I.aside ins.new).image.faults }
     ensures attached { (I.aside ins.new).image.attached ≡ (I.aside ins.old).image.attached }

@@ -3,7 +3,7 @@ ghost use Rattle.std.specs.Prelude.{◌≡◌, ◌≤◌, IfSome};
 ghost use Rattle.tandem_io.specs.Inputs.{slots_of};
 ghost use Rattle.elf_image.specs.Faults.{Reads};
 ghost use Rattle.tandem_cli.specs.Fits.{IsFit};
-ghost use Rattle.tandem_cli.specs.Checks.{Caused, CountsStand, ImageCaused, ImageIs, OutcomeIs, StreamIs, meaning_of, outcome_read, refusal_of};
+ghost use Rattle.tandem_cli.specs.Checks.{Caused, CountsStand, ImageCaused, ImageIs, OutcomeIs, StreamCaused, StreamIs, meaning_of, outcome_read, refusal_of};
 ghost use Rattle.tandem_cli.specs.Seen.{asked_seen, chosen_seen};
 
 use super::chosen::CheckOptions;
@@ -105,8 +105,8 @@ fn refusal(fault: ImageFault) -> Outcome
 fn judge_stream<I: Inputs>(image: &Image, asked: &CheckWords, ins: &mut I) -> Outcome
     requires { IsFit (chosen_seen asked.now.options) }
     ensures outcome { IfSome (I.aside ins.old).names (λ names. StreamIs (asked_seen asked.now) image.now names result (I.left ins.new)) }
-    ensures cause { Caused result (slots_of (I.left ins.old) (I.ended ins.old) (I.faults ins.old) (I.aside ins.old))
-        (slots_of (I.left ins.new) (I.ended ins.new) (I.faults ins.new) (I.aside ins.new)) }
+    ensures cause { StreamCaused result (slots_of (I.left ins.old) (I.ended ins.old) (I.faults ins.old) (I.aside ins.old)).stream
+        (slots_of (I.left ins.new) (I.ended ins.new) (I.faults ins.new) (I.aside ins.new)).stream }
     ensures count { I.faults ins.old ≤ I.faults ins.new }
     ensures image { (I.aside ins.new).image ≡ (I.aside ins.old).image }
 {

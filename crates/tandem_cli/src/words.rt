@@ -16,6 +16,7 @@ pub struct CheckWords<'a> {
     pub image: &'a str,
     /// The name of the stream.
     pub stream: &'a str,
+    /// The options.
     pub options: CheckOptions,
 }
 

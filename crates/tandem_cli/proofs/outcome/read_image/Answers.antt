@@ -1,4 +1,4 @@
-use Rattle.std.proofs.Common.{◌≡◌, List, ℕ, subst}
+use Rattle.std.proofs.Common.{List, ℕ, subst}
 use Rattle.elf_image.specs.Faults.{Reads}
 use Rattle.tandem_cli.specs.Checks.{meaning_of}
 use Rattle.tandem_cli.specs.Seen.{asked_seen, chosen_seen}
