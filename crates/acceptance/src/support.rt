@@ -6,14 +6,18 @@ use std::test::Fail;
 use tandem_cli::run_check;
 use tandem_io::{MemInputs, MemSink};
 
-/// A run: the image and the stream in hexadecimal, the words after the program's name, and the
-/// line and the status that they have to give. The image is there as `i`, the stream as `s`.
+/// A run of `tandem check`, and what has to come of it.
 #[derive(Clone, Copy)]
 pub struct Run {
+    /// The image in hexadecimal, which is there as `i`.
     pub image: &'static str,
+    /// The stream in hexadecimal, which is there as `s`.
     pub stream: &'static str,
+    /// The words after the program's name, with single spaces between them.
     pub words: &'static str,
+    /// The line that has to be written.
     pub line: &'static str,
+    /// The status that has to be answered.
     pub status: u8,
 }
 
@@ -51,11 +55,23 @@ pub fn expect_all(rt: &impl Abort, alloc: Global, runs: &[Run], step: usize) -> 
 fn expect(rt: &impl Abort, alloc: Global, run: &Run, step: usize) -> Result<(), Fail>
     requires { 1 ≤ step }
 {
-    let words = words_of(alloc, run.words)?;
     let mut ins = inputs_of(alloc, run, step)?;
-    let mut out = MemSink::new(alloc, 512, 512)?;
-    let status = run_check(alloc, &words, &mut ins, &mut out);
-    assert_eq!(rt; out.bytes(), run.line.as_bytes());
-    assert_eq!(rt; status, run.status);
+    expect_line(rt, alloc, run.words, &mut ins, run.line, run.status)
+}
+
+/// Runs the words over these inputs, and expects that line and that status.
+pub fn expect_line(
+    rt: &impl Abort,
+    alloc: Global,
+    words: &str,
+    ins: &mut MemInputs,
+    line: &str,
+    status: u8,
+) -> Result<(), Fail> {
+    let words = words_of(alloc, words)?;
+    let mut out = MemSink::new(alloc, 8192, 512)?;
+    let answered = run_check(alloc, &words, ins, &mut out);
+    assert_eq!(rt; out.bytes(), line.as_bytes());
+    assert_eq!(rt; answered, status);
     Ok(())
 }

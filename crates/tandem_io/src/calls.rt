@@ -23,6 +23,7 @@ impl Model for Calls {
 impl Calls {
     ghost use Rattle.tandem_io.specs.Calls.{no_calls, next_fails, after_call, with_failing};
 
+    /// No call yet, and none that is to fail.
     pub(super) fn new(alloc: Global) -> Calls
         ensures { result ≡ no_calls }
     {

@@ -23,6 +23,7 @@ impl Model for NamedBytes {
 }
 
 impl NamedBytes {
+    /// A content and its name, copied.
     pub(super) fn new(alloc: Global, name: &str, bytes: &[u8]) -> Result<NamedBytes, AllocError>
         ensures { IfOk result (λ file. file ≡ record { name = name.now; bytes = bytes.now }) }
     {
@@ -48,12 +49,17 @@ impl NamedBytes {
 /// Where a slot reads: in which content, and after how many of its bytes.
 #[derive(Clone, Copy, Debug)]
 pub(super) struct Cursor {
+    /// The place of the content among the contents.
     pub(super) file: Option<usize>,
+    /// How many of its bytes were read.
     pub(super) at: usize,
+    /// Whether the last read answered 0.
     pub(super) ended: bool,
+    /// What the last attach answered.
     pub(super) attached: Option<bool>,
 }
 
+/// A slot that was not attached yet.
 pub(super) const UNREAD: Cursor = Cursor {
     file: None,
     at: 0,

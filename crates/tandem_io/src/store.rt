@@ -37,6 +37,7 @@ impl Store {
     ghost use Rattle.tandem_io.specs.Inputs.{content_of};
     ghost use Rattle.tandem_io.specs.Store.{nothing_held, with_content, reading_of, with_reading, after_attach, after_read, after_miss, taken_by};
 
+    /// No content yet. A read takes at most `step` bytes.
     pub(super) fn new(alloc: Global, step: usize) -> Store
         requires { 1 ≤ step }
         ensures { result ≡ nothing_held step }
@@ -49,6 +50,7 @@ impl Store {
         }
     }
 
+    /// Adds a content under a name that was not added before.
     pub(super) fn add(&mut self, name: &str, bytes: &[u8]) -> Result<(), AllocError>
         requires { content_of self.old.names name.now ≡ None }
         ensures ok { OnOk result (self.new ≡ with_content self.old name.now bytes.now) }

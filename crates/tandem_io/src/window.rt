@@ -20,6 +20,7 @@ pub(super) struct Window {
 impl Window {
     ghost use Rattle.tandem_io.specs.Window.{unread_in};
 
+    /// A window of no bytes.
     pub(super) fn new() -> Window
         ensures { unread_in result ≡ [] }
     {
@@ -30,6 +31,7 @@ impl Window {
         }
     }
 
+    /// Whether all that was read is given on.
     pub(super) fn is_empty(&self) -> bool
         ensures { result ≡ nat_eq (length (unread_in self.now)) 0 }
     {
