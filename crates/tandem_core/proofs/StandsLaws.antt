@@ -24,7 +24,7 @@ use Rattle.tandem_core.specs.declared.fed.Fed.TheVariants as fed
 use Rattle.tandem_core.specs.Retires.{started}
 use Rattle.tandem_core.specs.Runs.{size_of, is_retire, open_of, config_in, harts_of, hart_of, state_after, config_of, offset_of, retired_of, message_fault_of}
 use Rattle.tandem_core.specs.Judgements.{decided, decided_by, full_of, IsQuiet}
-use Rattle.tandem_core.specs.Cores.{Stands, StatesStand, IsBeside, Counts, Answers, answer_of, closing_of, state_of}
+use Rattle.tandem_core.specs.Cores.{Stands, HasCounted, StatesStand, IsBeside, Counts, Answers, answer_of, closing_of, state_of}
 
 -- either branch of a choice, where the test says which
 either : {A : Type 0} (b : Bool) (x y z : A) → (b ≡ true → x ≡ y) → (b ≡ false → x ≡ z) → x ≡ (if b then y else z)
@@ -151,3 +151,7 @@ answers_step image core mid core' before m None stands is beside states counts c
 pub if_none_then : {A : Type 0} {P Q : Type 0} → (o : Option A) → IfNone o P → (P → Q) → IfNone o Q
 if_none_then (Some x) p f = tt
 if_none_then None p f = f p
+
+-- a core that stands for messages has counted them
+pub counted : {image : ImageOf} {core : Core} {before : List Message} → Stands image core before → HasCounted core before
+counted stands = record { count = stands.count; offset = stands.offset }

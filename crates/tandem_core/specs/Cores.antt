@@ -37,6 +37,11 @@ pub record IsBeside (old new : Core) : Type 0 where
 abbrev pub StatesStand : ImageOf → Core → List Message → Type 0
 StatesStand image core before = (h : ℕ) → h < 16 → state_of core h ≡ hart_of image h before
 
+-- The core has counted these messages, newest first, the one that closed it included.
+pub record HasCounted (core : Core) (counted : List Message) : Type 0 where
+  pub count : core.count ≡ length counted
+  pub offset : core.offset ≡ offset_of counted
+
 -- The core has taken these messages, newest first, against this image, and none of them decided anything.
 pub record Stands (image : ImageOf) (core : Core) (before : List Message) : Type 0 where
   pub going : core.closing ≡ None

@@ -77,12 +77,13 @@ impl Core {
     ghost use Rattle.elf_image.specs.Images.{ImageOf};
     ghost use Rattle.tandem_core.specs.Runs.{offset_of, stream_fault_of, body_fault_of, state_after, message_fault_of};
     ghost use Rattle.tandem_core.specs.Judgements.{HasCeilings, bad_frame_of, truncated_of};
-    ghost use Rattle.tandem_core.specs.Cores.{Stands, Answers, closing_of, state_of, IsBeside, answer_of, Counts, StatesStand};
+    ghost use Rattle.tandem_core.specs.Cores.{Stands, HasCounted, Answers, closing_of, state_of, IsBeside, answer_of, Counts, StatesStand};
 
     /// A checker of a stream against this image, before the first message.
     pub fn start(image: &Image, limits: &Limits) -> Core
         requires { HasCeilings limits.now }
         ensures stands { Stands image.now result [] }
+        ensures counted { HasCounted result [] }
         ensures limits { result.limits ≡ limits.now }
     {
         Core {
@@ -100,22 +101,22 @@ impl Core {
 
     /// How many messages were taken, the one that closed the checker included.
     pub fn count(&self) -> u64
-        ensures { (image : ImageOf) (before : List Message) → Stands image self.now before → result ≡ length before }
+        ensures { (counted : List Message) → HasCounted self.now counted → result ≡ length counted }
     {
         self.count
     }
 
-    /// How many bytes the messages take that were taken.
+    /// How many bytes the messages take that were taken, the one that closed the checker included.
     pub fn offset(&self) -> u64
-        ensures { (image : ImageOf) (before : List Message) → Stands image self.now before → result ≡ offset_of before }
+        ensures { (counted : List Message) → HasCounted self.now counted → result ≡ offset_of counted }
     {
         self.offset
     }
 
-    /// The report of a frame, after the messages so far, that breaks the grammar. It names the
-    /// offset of the byte that breaks it.
+    /// The report of a frame, after the messages so far, the one that closed the checker included,
+    /// that breaks the grammar. It names the offset of the byte that breaks it.
     pub fn bad_frame(&self, fault: &FrameFault) -> Report
-        ensures { (image : ImageOf) (before : List Message) → Stands image self.now before → result ≡ bad_frame_of before fault.now }
+        ensures { (counted : List Message) → HasCounted self.now counted → result ≡ bad_frame_of counted fault.now }
     {
         let FrameFault { form, offset } = *fault;
         Report {
@@ -126,9 +127,10 @@ impl Core {
         }
     }
 
-    /// The report of a frame, after the messages so far, of which only `have` bytes came.
+    /// The report of a frame, after the messages so far, the one that closed the checker included, of
+    /// which only `have` bytes came.
     pub fn truncated(&self, have: u16) -> Report
-        ensures { (image : ImageOf) (before : List Message) → Stands image self.now before → result ≡ truncated_of before have }
+        ensures { (counted : List Message) → HasCounted self.now counted → result ≡ truncated_of counted have }
     {
         Report {
             message: self.count + 1,
@@ -250,6 +252,7 @@ impl Core {
         ensures answers { (before : List Message) → Stands image.now self.old before → Answers image.now self.old before message.now result self.new }
         ensures closed { IfSome self.old.closing (λ fed. (result ≡ fed) × (self.new ≡ self.old)) }
         ensures closes { IfNone self.old.closing (self.new.closing ≡ closing_of result) }
+        ensures counts { (counted : List Message) → HasCounted self.old counted → IfNone self.old.closing (HasCounted self.new (message.now ∷ counted)) }
         ensures limits { self.new.limits ≡ self.old.limits }
     {
         if let Some(fed) = self.closing {

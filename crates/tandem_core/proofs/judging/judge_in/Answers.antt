@@ -4,6 +4,7 @@ use Rattle.tandem_core.specs.declared.fed.Fed.{Fed}
 use Rattle.tandem_core.specs.declared.fed.Fed.TheVariants as fed
 use Rattle.tandem_core.specs.Cores.{Answers}
 use Rattle.verdict_report.specs.declared.verdict.Verdict.TheVariants as verdict
+use Rattle.tandem_core.proofs.StandsLaws.{counted}
 use Rattle.tandem_core.proofs.Progress.{goes_on, fine_when, given_by, malformed, ends_short, lacks_part}
 use Rattle.tandem_core.proofs.judging.judge_in.Goals as goal
 
@@ -55,7 +56,7 @@ returns-in-Bad-clause-judged g c =
       malformed c.args.image.now c.args.limits.now c.loop-message.core (g.S.Source.left c.args.src.now)
           (g.S.Source.left c.loop-message.src) (g.S.Source.left c.next_message_in.new.src) (g.S.Source.log c.args.src.now)
           (g.S.Source.log c.loop-message.src) front c.in-Bad.fault (verdict.Reject c.bad_frame.result) p told.0 told.1
-          (ap verdict.Reject (c.bad_frame.ensures c.args.image.now p.before p.stands)),
+          (ap verdict.Reject (c.bad_frame.ensures p.before (counted p.stands))),
     )
 
 pub returns-in-Ended-clause-judged : goal.returns-in-Ended-clause-judged
@@ -71,7 +72,7 @@ returns-in-Ended-clause-judged g c =
       ends_short c.args.image.now c.args.limits.now c.loop-message.core (g.S.Source.left c.args.src.now)
           (g.S.Source.left c.loop-message.src) (g.S.Source.left c.next_message_in.new.src) (g.S.Source.log c.args.src.now)
           (g.S.Source.log c.loop-message.src) front c.in-Ended.have (verdict.Reject c.truncated.result) p told.0 told.1 told.2
-          (ap verdict.Reject (c.truncated.ensures c.args.image.now p.before p.stands)),
+          (ap verdict.Reject (c.truncated.ensures p.before (counted p.stands))),
     )
 
 pub returns-in-Failed-clause-judged : goal.returns-in-Failed-clause-judged
