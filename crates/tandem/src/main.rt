@@ -2,6 +2,7 @@
 #![tactic(auto)]
 
 use std::env;
+use std::io::ErrorKind;
 use std::process::ExitCode;
 use std::rt::{Env, Files};
 use tandem_cli::run_check;
@@ -23,10 +24,17 @@ fn run<R: Env + Files + Print + AllocGlobal>(rt: &R) -> u8 {
     }
 }
 
+// Where a word isn't UTF-8 the list is empty, and so of another form too.
 fn words<R: Env + AllocGlobal>(rt: &R) -> Option<Vec<String>> {
     let mut words = Vec::new(rt.alloc());
-    for word in env::args(rt).ok()?.skip(1) {
-        words.push(word).ok()?;
+    match env::args(rt) {
+        Ok(all) => {
+            for word in all.skip(1) {
+                words.push(word).ok()?;
+            }
+        }
+        Err(error) if error.kind() == ErrorKind::OutOfMemory => return None,
+        Err(_) => {}
     }
     Some(words)
 }
