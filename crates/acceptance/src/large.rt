@@ -1,7 +1,7 @@
 use super::support::{Run, expect_line, inputs_of};
 use std::alloc::{AllocError, Global};
 use std::test::Fail;
-use tandem_io::MemInputs;
+use tandem_io::{MemInputs, Slot};
 
 // JAL to the instruction after 64 KiB, and its retirement and that of an ADDI.
 const FAR: &str = "1a000100000000000000000000000000000000000101000000000000\
@@ -75,6 +75,22 @@ fn an_image_of_more_than_64_kib_is_read(rt: HostRuntime) -> Result<(), Fail> {
         expect_line(&rt, alloc, "check i s", &mut elf, ACCEPTED, 0)?;
     }
     Ok(())
+}
+
+#[test]
+fn an_image_is_read_in_pieces_of_32_kib_at_least(rt: HostRuntime) -> Result<(), Fail> {
+    let alloc = rt.alloc();
+    let mut ins = far_inputs(alloc, "", 1_000_000)?;
+    // It is attached, and its 65540 bytes are at most three such pieces. The call after these finds its end.
+    ins.fail_at(Slot::Image, 6)?;
+    expect_line(
+        &rt,
+        alloc,
+        "check i s --flat 0x80000000",
+        &mut ins,
+        ACCEPTED,
+        0,
+    )
 }
 
 #[test]
