@@ -1,6 +1,7 @@
 use super::file_slot::FileSlot;
 use super::*;
 use std::alloc::{AllocError, Global};
+use std::cell::Cell;
 use std::fs;
 use std::io::{self, ErrorKind, Print, Read};
 use std::test::Fail;
@@ -205,6 +206,41 @@ impl Print for Full {
     fn write_some(&self, _bytes: &[u8]) -> io::Result<usize> {
         Ok(0)
     }
+}
+
+/// An output that takes at most three bytes at a time, and counts them.
+#[derive(Drop)]
+struct Slow {
+    taken: Cell<usize>,
+}
+
+impl Print for Slow {
+    fn print<D: std::fmt::Display + Drop>(&self, _value: D) -> io::Result<()> {
+        Ok(())
+    }
+
+    fn println<D: std::fmt::Display + Drop>(&self, _value: D) -> io::Result<()> {
+        Ok(())
+    }
+
+    fn write_all(&self, _bytes: &[u8]) -> io::Result<()> {
+        Ok(())
+    }
+
+    fn write_some(&self, bytes: &[u8]) -> io::Result<usize> {
+        let n = bytes.len().min(3);
+        self.taken.set(self.taken.get().saturating_add(n));
+        Ok(n)
+    }
+}
+
+#[test]
+fn writes_to_an_output_that_takes_little_at_a_time(rt: HostRuntime) {
+    let slow = Slow {
+        taken: Cell::new(0),
+    };
+    assert_eq!(rt; write_all(&mut StdoutSink::new(&slow), b"a line\n"), Ok(()));
+    assert_eq!(rt; slow.taken.get(), 7);
 }
 
 #[test]
