@@ -40,6 +40,11 @@ pub fn report_is_one()
     ensures { ReportIsOne }
 {}
 
+/// A pair is reported exactly where one is broken.
+pub fn report_is_where_broken()
+    ensures { ReportIsWhereBroken }
+{}
+
 /// A trace in form has one answer.
 #[tactic(auto, using(crate::proofs::Uniqueness::answer_one))]
 pub fn answer_is_one()
