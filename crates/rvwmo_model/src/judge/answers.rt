@@ -11,7 +11,7 @@ use super::atomic::{
     blamed, block_byte, is_torn, is_unpaired, latest_intruder, or_address, torn_byte,
 };
 use super::rules::is_broken;
-use super::sources::{key_of, later, source};
+use super::sources::{keep_later, key_of, source};
 use crate::answers::Judged;
 use crate::initial::InitialBytes;
 use crate::operations::Op;
@@ -163,7 +163,7 @@ fn latest_first(
     let mut best = None;
     for a in ops {
         if is_broken(alloc, rule, t, a, b)? {
-            best = later(best, a);
+            keep_later(&mut best, a);
         }
     }
     Ok(best)

@@ -8,7 +8,7 @@ ghost use Rattle.rvwmo_model.specs.Sources;
 ghost use Rattle.rvwmo_model.specs.Tests;
 
 use super::rules::{is_pair_of, is_sc};
-use super::sources::{insn_of, later, source};
+use super::sources::{insn_of, keep_later, source};
 use crate::instructions::Retired;
 use crate::operations::Op;
 use crate::traces::Trace;
@@ -183,7 +183,7 @@ fn latest_foreign(start: Option<Op>, list: &[Op], w: &Op, x: u64) -> Option<Op>
     let mut best = start;
     for v in list {
         if v.writes(x) && is_other_before(w, v) {
-            best = later(best, v);
+            keep_later(&mut best, v);
         }
     }
     best
@@ -195,7 +195,7 @@ fn latest_in_block(t: &Trace, start: Option<Op>, list: &[Op], r: &Op, w: &Op) ->
     let mut best = start;
     for v in list {
         if intrudes_block(t, r, w, v) {
-            best = later(best, v);
+            keep_later(&mut best, v);
         }
     }
     best

@@ -1,5 +1,5 @@
 //! Where a loaded byte comes from.
-ghost use Rattle.std.specs.Prelude.{◌≡◌, ◌&&◌, ◌||◌, None};
+ghost use Rattle.std.specs.Prelude.{◌≡◌, ◌&&◌, ◌||◌, None, Some, if◌then◌else◌};
 ghost use Rattle.std.specs.List.{filter};
 ghost use Rattle.rvwmo_model.specs.Order;
 ghost use Rattle.rvwmo_model.specs.ProgramOrder;
@@ -30,13 +30,22 @@ pub fn insn_of(t: &Trace, o: &Op) -> Option<Retired>
     insn_at(t.insns.items(), o.name.hart, o.name.tag)
 }
 
-/// The later of two in global order.
-pub fn later(best: Option<Op>, w: &Op) -> Option<Op>
-    ensures { result ≡ Sources.later best w.now }
+/// Whether an operation is later in global order than the latest so far.
+fn is_later(best: &Option<Op>, w: &Op) -> bool
+    ensures { Sources.later best.now w.now ≡ (if result then Some w.now else best.now) }
 {
     match best {
-        None => Some(*w),
-        Some(v) => { if v.precedes(w) { Some(*w) } else { Some(v) } }
+        None => true,
+        Some(v) => v.precedes(w),
+    }
+}
+
+/// Makes an operation the latest so far, where it is later in global order.
+pub fn keep_later(best: &mut Option<Op>, w: &Op)
+    ensures { best.new ≡ Sources.later best.old w.now }
+{
+    if is_later(best, w) {
+        *best = Some(*w);
     }
 }
 
@@ -46,7 +55,7 @@ fn latest_retired(ops: &[Op], i: &Op, x: u64) -> Option<Op>
     let mut best = None;
     for w in ops {
         if w.writes(x) && (w.precedes(i) || w.is_older(i)) {
-            best = later(best, w);
+            keep_later(&mut best, w);
         }
     }
     best
@@ -58,7 +67,7 @@ fn latest_early(start: Option<Op>, early: &[Op], i: &Op, x: u64) -> Option<Op>
     let mut best = start;
     for w in early {
         if w.writes(x) && w.precedes(i) {
-            best = later(best, w);
+            keep_later(&mut best, w);
         }
     }
     best

@@ -248,9 +248,13 @@ fn push_some(marks: &mut Vec<Register>, r: Option<Register>) -> Result<(), Alloc
     }
 }
 
+#[tactic(auto, using(crate::proofs::Walks::mark_nothing))]
 fn mark(marks: &mut Vec<Register>, w: &Retired, starts: bool) -> Result<(), AllocError>
     ensures { IfOk result (λ _. marks.new.items ≡ Walk.mark w.now starts marks.old.items) }
 {
+    if marks.is_empty() && !starts {
+        return Ok(());
+    }
     let rd = fresh(w, starts, marks.as_slice(), rd_of(&w.insn));
     let csr = fresh(w, starts, marks.as_slice(), csr_of(&w.insn));
     keep_unset(marks, w);
