@@ -35,7 +35,7 @@ found_in (r ∷ rs) h k w e = at ((eqb r.hart h) && (eqb r.tag k)) refl e (found
         (inl (sym same), sym (ap (λ (z : Retired). z.hart) same) ∙ eqb-true r.hart h p.0, sym (ap (λ (z : Retired). z.tag) same) ∙ eqb-true r.tag k p.1)
 
 -- an instruction that stands there
-look_here : (w : Retired) (ws : List Retired) (h k : ℕ) → w.hart ≡ h → w.tag ≡ k → insn_at (w ∷ ws) h k ≡ Some w
+pub look_here : (w : Retired) (ws : List Retired) (h k : ℕ) → w.hart ≡ h → w.tag ≡ k → insn_at (w ∷ ws) h k ≡ Some w
 look_here w ws h k a b = rw (eq-eqb w.hart h a, eq-eqb w.tag k b) refl
 
 -- one of another hart
@@ -43,7 +43,7 @@ look_hart : (w : Retired) (ws : List Retired) (h k : ℕ) → eqb w.hart h ≡ f
 look_hart w ws h k e = rw e refl
 
 -- one under another tag
-look_tag : (w : Retired) (ws : List Retired) (h k : ℕ) → (w.tag ≡ k → ⊥) → insn_at (w ∷ ws) h k ≡ insn_at ws h k
+pub look_tag : (w : Retired) (ws : List Retired) (h k : ℕ) → (w.tag ≡ k → ⊥) → insn_at (w ∷ ws) h k ≡ insn_at ws h k
 look_tag w ws h k ne = at (eqb w.hart h) refl
   where
     at : (b : Bool) → eqb w.hart h ≡ b → cond (eqb w.hart h && eqb w.tag k) (Some w) (insn_at ws h k) ≡ insn_at ws h k
@@ -133,6 +133,18 @@ not_false false e = refl
 -- a register is marked after w: it was, and w doesn't set it; or w sets it, and starts, or carries a marked one to it
 abbrev MarkedBy : Retired → Bool → List Register → Register → Type 0
 MarkedBy w starts marks q = (In q marks × (sets w.insn w.stored q ≡ false)) ⊎ ((sets w.insn w.stored q ≡ true) × (Gives w starts marks q ≡ true))
+
+fresh_nothing : (w : Retired) (o : Option Register) → fresh w false [] o ≡ None
+fresh_nothing w None = refl
+fresh_nothing w (Some r) = at (sets w.insn w.stored r)
+  where
+    at : (b : Bool) → cond (b && (false || false)) (Some r) None ≡ None
+    at true = refl
+    at false = refl
+
+-- where nothing is marked, an instruction at which the walk doesn't start marks nothing
+pub mark_nothing : (w : Retired) (starts : Bool) (marks : List Register) → marks ≡ [] → starts ≡ false → mark w starts marks ≡ []
+mark_nothing w starts marks e f = rw (e, f, fresh_nothing w (rd_of w.insn), fresh_nothing w (csr_of w.insn)) refl
 
 mark_in : (w : Retired) (starts : Bool) (marks : List Register) (q : Register) → In q (mark w starts marks) → MarkedBy w starts marks q
 mark_in w starts marks q h = elim (in_cases (filter (λ r. not (sets w.insn w.stored r)) marks ++ list_of (fresh w starts marks (rd_of w.insn))) (list_of (fresh w starts marks (csr_of w.insn))) q h) [

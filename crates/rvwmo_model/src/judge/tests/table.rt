@@ -6,7 +6,7 @@ use crate::judge::answers::answer;
 use crate::lists::{InsnList, OpList};
 use crate::operations::{Ann, Op, OpKind};
 use crate::traces::Trace;
-use rv_decode::{AmoOp, BranchOp, CsrOp, Insn, LoadOp, RegOp, StoreOp};
+use rv_decode::{AmoOp, BranchOp, CsrOp, ImmOp, Insn, LoadOp, RegOp, StoreOp};
 use std::alloc::Global;
 use std::test::Fail;
 use tandem_base::{Bytes8, Extent, OpName, Origin, Place};
@@ -28,6 +28,8 @@ pub type Access = (OpKind, Ann, Ann);
 pub const L: Access = (OpKind::Load, Ann::None, Ann::None);
 
 pub const L_AQ: Access = (OpKind::Load, Ann::Rcsc, Ann::None);
+
+pub const L_RCPC: Access = (OpKind::Load, Ann::Rcpc, Ann::None);
 
 pub const S: Access = (OpKind::Store, Ann::None, Ann::None);
 
@@ -54,6 +56,7 @@ pub const Z: u64 = 0x80001080;
 pub enum Kind {
     Lui,
     Auipc,
+    Jal,
     Jalr,
     Beq,
     Lw,
@@ -62,6 +65,7 @@ pub enum Kind {
     Sd,
     Xor,
     Add,
+    Addi,
     Fence,
     Csrrw,
     Csrrs,
@@ -121,69 +125,94 @@ fn amo(op: AmoOp, rd: u8, rs1: u8, rs2: u8) -> Insn {
     }
 }
 
+fn load(op: LoadOp, rd: u8, rs1: u8) -> Insn {
+    Insn::Load {
+        op,
+        rd,
+        rs1,
+        imm: 0,
+    }
+}
+
+fn store(op: StoreOp, rs1: u8, rs2: u8) -> Insn {
+    Insn::Store {
+        op,
+        rs1,
+        rs2,
+        imm: 0,
+    }
+}
+
+fn addi(rd: u8, rs1: u8) -> Insn {
+    Insn::AluImm {
+        op: ImmOp::Addi,
+        rd,
+        rs1,
+        imm: 0,
+    }
+}
+
+fn beq(rs1: u8, rs2: u8) -> Insn {
+    Insn::Branch {
+        op: BranchOp::Beq,
+        rs1,
+        rs2,
+        imm: 4,
+    }
+}
+
+fn fence(fm: u8, pred: u8, succ: u8) -> Insn {
+    Insn::Fence {
+        fm,
+        pred,
+        succ,
+        rd: 0,
+        rs1: 0,
+    }
+}
+
+fn lr(rd: u8, rs1: u8) -> Insn {
+    Insn::Lr {
+        wide: false,
+        aq: false,
+        rl: false,
+        rd,
+        rs1,
+    }
+}
+
+fn sc(rd: u8, rs1: u8, rs2: u8) -> Insn {
+    Insn::Sc {
+        wide: false,
+        aq: false,
+        rl: false,
+        rd,
+        rs1,
+        rs2,
+    }
+}
+
 fn insn_of(kind: Kind, rd: u8, rs1: u8, last: u16) -> Insn {
     let rs2 = (last & 0xff) as u8;
     match kind {
         Kind::Lui => Insn::Lui { rd, imm: 0 },
         Kind::Auipc => Insn::Auipc { rd, imm: 0 },
+        Kind::Jal => Insn::Jal { rd, imm: 4 },
         Kind::Jalr => Insn::Jalr { rd, rs1, imm: 0 },
-        Kind::Beq => Insn::Branch {
-            op: BranchOp::Beq,
-            rs1,
-            rs2,
-            imm: 4,
-        },
-        Kind::Lw => Insn::Load {
-            op: LoadOp::Lw,
-            rd,
-            rs1,
-            imm: 0,
-        },
-        Kind::Ld => Insn::Load {
-            op: LoadOp::Ld,
-            rd,
-            rs1,
-            imm: 0,
-        },
-        Kind::Sw => Insn::Store {
-            op: StoreOp::Sw,
-            rs1,
-            rs2,
-            imm: 0,
-        },
-        Kind::Sd => Insn::Store {
-            op: StoreOp::Sd,
-            rs1,
-            rs2,
-            imm: 0,
-        },
+        Kind::Beq => beq(rs1, rs2),
+        Kind::Lw => load(LoadOp::Lw, rd, rs1),
+        Kind::Ld => load(LoadOp::Ld, rd, rs1),
+        Kind::Sw => store(StoreOp::Sw, rs1, rs2),
+        Kind::Sd => store(StoreOp::Sd, rs1, rs2),
         Kind::Xor => alu(RegOp::Xor, rd, rs1, rs2),
         Kind::Add => alu(RegOp::Add, rd, rs1, rs2),
-        Kind::Fence => Insn::Fence {
-            fm: rd,
-            pred: rs1,
-            succ: rs2,
-            rd: 0,
-            rs1: 0,
-        },
+        Kind::Addi => addi(rd, rs1),
+        Kind::Fence => fence(rd, rs1, rs2),
         Kind::Csrrw => csr(CsrOp::Rw, rd, rs1, last),
         Kind::Csrrs => csr(CsrOp::Rs, rd, rs1, last),
         Kind::Csrrwi => csr(CsrOp::Rwi, rd, rs1, last),
-        Kind::Lr => Insn::Lr {
-            wide: false,
-            aq: false,
-            rl: false,
-            rd,
-            rs1,
-        },
-        Kind::Sc => Insn::Sc {
-            wide: false,
-            aq: false,
-            rl: false,
-            rd,
-            rs1,
-            rs2,
-        },
+        Kind::Lr => lr(rd, rs1),
+        Kind::Sc => sc(rd, rs1, rs2),
         Kind::Amoadd => amo(AmoOp::Add, rd, rs1, rs2),
         Kind::Amoswap => amo(AmoOp::Swap, rd, rs1, rs2),
     }
