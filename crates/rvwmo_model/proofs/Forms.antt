@@ -1,5 +1,5 @@
 -- Traces in form.
-use Rattle.std.proofs.Common.{ℕ, zero, suc, ◌<◌, ◌≡◌, ◌⊎◌, inl, inr, true, false, ◌||◌, List, [], ◌∷◌, Some, None, refl, sym, subst, ◌∙◌, arith}
+use Rattle.std.proofs.Common.{ℕ, zero, suc, ◌<◌, ◌≡◌, inl, inr, true, false, ◌||◌, List, [], ◌∷◌, Some, None, sym, subst, ◌∙◌, arith}
 use Rattle.std.proofs.lemmas.Bool.{both_ways}
 use Rattle.tandem_base.specs.declared.names.Place.{Place}
 use Rattle.rvwmo_model.specs.declared.instructions.Retired.{Retired}
@@ -9,7 +9,7 @@ use Rattle.rvwmo_model.specs.Members.{In}
 use Rattle.rvwmo_model.specs.ProgramOrder.{insn_of, is_one}
 use Rattle.rvwmo_model.specs.Rules.{is_lr}
 use Rattle.rvwmo_model.specs.Atomicity.{has_stored}
-use Rattle.rvwmo_model.specs.InForm.{InForm, IsPlaced, IsWhole, HasOne}
+use Rattle.rvwmo_model.specs.InForm.{InForm, IsWhole}
 use Rattle.rvwmo_model.proofs.Walks.{look_here, look_tag}
 
 -- the trace of nothing is in form
