@@ -35,7 +35,7 @@ found_in (r ∷ rs) h k w e = at ((eqb r.hart h) && (eqb r.tag k)) refl e (found
         (inl (sym same), sym (ap (λ (z : Retired). z.hart) same) ∙ eqb-true r.hart h p.0, sym (ap (λ (z : Retired). z.tag) same) ∙ eqb-true r.tag k p.1)
 
 -- an instruction that stands there
-pub look_here : (w : Retired) (ws : List Retired) (h k : ℕ) → w.hart ≡ h → w.tag ≡ k → insn_at (w ∷ ws) h k ≡ Some w
+look_here : (w : Retired) (ws : List Retired) (h k : ℕ) → w.hart ≡ h → w.tag ≡ k → insn_at (w ∷ ws) h k ≡ Some w
 look_here w ws h k a b = rw (eq-eqb w.hart h a, eq-eqb w.tag k b) refl
 
 -- one of another hart
@@ -43,7 +43,7 @@ look_hart : (w : Retired) (ws : List Retired) (h k : ℕ) → eqb w.hart h ≡ f
 look_hart w ws h k e = rw e refl
 
 -- one under another tag
-pub look_tag : (w : Retired) (ws : List Retired) (h k : ℕ) → (w.tag ≡ k → ⊥) → insn_at (w ∷ ws) h k ≡ insn_at ws h k
+look_tag : (w : Retired) (ws : List Retired) (h k : ℕ) → (w.tag ≡ k → ⊥) → insn_at (w ∷ ws) h k ≡ insn_at ws h k
 look_tag w ws h k ne = at (eqb w.hart h) refl
   where
     at : (b : Bool) → eqb w.hart h ≡ b → cond (eqb w.hart h && eqb w.tag k) (Some w) (insn_at ws h k) ≡ insn_at ws h k

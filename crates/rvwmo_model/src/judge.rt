@@ -19,7 +19,6 @@ use std::alloc::{AllocError, Global};
 /// Judges a trace in form. The answer is Legal exactly where the trace is legal; else it is the first
 /// of pair, value, order and atomicity that is broken, with the choices that `Judged` states. This is
 /// the definitions' plain program: it goes through all pairs of operations.
-
 pub fn plain_judge<I: InitialBytes>(
     alloc: Global,
     image: &I,

@@ -162,6 +162,7 @@ fn is_lr(insn: &Insn) -> bool
     }
 }
 
+/// Whether it is an SC.
 pub fn is_sc(insn: &Insn) -> bool
     ensures { result ≡ Rules.is_sc insn.now }
 {
