@@ -1,4 +1,5 @@
 pub mod Answered
+pub mod Asked
 pub mod Choices
 pub mod Forms
 pub mod FoundAtomicity

@@ -1,5 +1,5 @@
 -- A walk through the instructions of a hart that finds what depends on one of them.
-use Rattle.std.specs.Prelude.{◌==◌, ◌&&◌, ◌||◌, nat_le, not, List, [], ◌∷◌, ◌++◌, Bool, false, None, Some, if◌then◌else◌}
+use Rattle.std.specs.Prelude.{◌==◌, ◌&&◌, ◌||◌, nat_le, not, List, [], ◌∷◌, ◌++◌, Bool, true, false, None, Some, if◌then◌else◌}
 use Rattle.std.specs.List.{filter}
 use Rattle.std.specs.declared.option.Option.{Option}
 use Rattle.rv_decode.specs.declared.instruction.Insn.{Insn}
@@ -17,6 +17,32 @@ abbrev pub use_of : Use → Insn → Register → Bool
 use_of Address = is_address
 use_of Data = is_data
 use_of Control = is_control
+
+-- an instruction has a register that gives an address, one that gives data, or one that decides where it goes
+abbrev pub has_address : Insn → Bool
+has_address (Load op rd rs1 imm) = true
+has_address (Store op rs1 rs2 imm) = true
+has_address (Lr wide aq rl rd rs1) = true
+has_address (Sc wide aq rl rd rs1 rs2) = true
+has_address (Amo op wide aq rl rd rs1 rs2) = true
+has_address _ = false
+
+abbrev pub has_data : Insn → Bool
+has_data (Store op rs1 rs2 imm) = true
+has_data (Sc wide aq rl rd rs1 rs2) = true
+has_data (Amo op wide aq rl rd rs1 rs2) = true
+has_data _ = false
+
+abbrev pub has_control : Insn → Bool
+has_control (Branch op rs1 rs2 imm) = true
+has_control (Jalr rd rs1 imm) = true
+has_control _ = false
+
+-- it has a register in that use
+abbrev pub has_use : Use → Insn → Bool
+has_use Address = has_address
+has_use Data = has_data
+has_use Control = has_control
 
 -- the register that an instruction has as rd
 abbrev pub rd_of : Insn → Option Register
@@ -67,6 +93,10 @@ abbrev pub finds_from : Search → List Register → List Retired → Bool
 finds_from search marks [] = false
 finds_from search marks (w ∷ ws) =
     if w.hart == search.hart then is_found search marks w || finds_from search (mark w (w.tag == search.start) marks) ws else finds_from search marks ws
+
+-- w is asked about, and has a register in the use that is asked for
+abbrev pub asks : Search → Retired → Bool
+asks search w = (w.hart == search.hart) && nat_le search.from w.tag && nat_le w.tag search.to && has_use search.by w.insn
 
 -- some instruction from a tag to a tag depends on the one under the tag at which the search starts
 abbrev pub finds : Search → List Retired → Bool

@@ -165,6 +165,27 @@ fn uses(by: Use, insn: &Insn, r: Register) -> bool
     }
 }
 
+/// Whether an instruction has a register in that use.
+fn has_use(by: Use, insn: &Insn) -> bool
+    ensures { result ≡ Walk.has_use by insn.now }
+{
+    match by {
+        Use::Address => matches!(
+            *insn,
+            Insn::Load { .. }
+                | Insn::Store { .. }
+                | Insn::Lr { .. }
+                | Insn::Sc { .. }
+                | Insn::Amo { .. }
+        ),
+        Use::Data => matches!(
+            *insn,
+            Insn::Store { .. } | Insn::Sc { .. } | Insn::Amo { .. }
+        ),
+        Use::Control => matches!(*insn, Insn::Branch { .. } | Insn::Jalr { .. }),
+    }
+}
+
 fn rd_of(insn: &Insn) -> Option<Register>
     ensures { result ≡ Walk.rd_of insn.now }
 {
@@ -280,8 +301,40 @@ fn is_found(search: Search, marks: &[Register], w: &Retired) -> bool
     search.from <= w.tag && w.tag <= search.to && uses_some(search.by, &w.insn, marks)
 }
 
+fn asks(search: Search, w: &Retired) -> bool
+    ensures { result ≡ Walk.asks search w.now }
+{
+    w.hart == search.hart
+        && search.from <= w.tag
+        && w.tag <= search.to
+        && has_use(search.by, &w.insn)
+}
+
+/// Whether an instruction that is asked about has a register in that use. It is a quick look before
+/// the walk.
+fn asks_some(search: Search, insns: &[Retired]) -> bool
+    ensures { result ≡ some_of (Walk.asks search) insns.now }
+{
+    for w in insns {
+        if asks(search, w) {
+            return true;
+        }
+    }
+    false
+}
+
 /// Whether there is such an instruction.
+#[tactic(auto, using(crate::proofs::Asked::none_asked))]
 pub fn finds(alloc: Global, search: Search, insns: &[Retired]) -> Result<bool, AllocError>
+    ensures { IfOk result (λ found. found ≡ Walk.finds search insns.now) }
+{
+    if !asks_some(search, insns) {
+        return Ok(false);
+    }
+    walk_finds(alloc, search, insns)
+}
+
+fn walk_finds(alloc: Global, search: Search, insns: &[Retired]) -> Result<bool, AllocError>
     ensures { IfOk result (λ found. found ≡ Walk.finds search insns.now) }
 {
     let mut marks: Vec<Register> = Vec::new(alloc);
