@@ -27,6 +27,10 @@ fn keeps_what_its_bits_allow(rt: HostRuntime) {
         );
         assert_eq!(rt; csrs, Csrs::new(3), "at {number}");
     }
+}
+
+#[test]
+fn refuses_what_is_read_only_or_absent(rt: HostRuntime) {
     let mut csrs = Csrs::new(3);
     for (number, answer) in [
         (CYCLE, CsrRead::Cycle),

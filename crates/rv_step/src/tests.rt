@@ -271,7 +271,7 @@ fn check_uses_csrs(
 }
 
 #[test]
-fn stores_conditionally_and_counts(rt: HostRuntime) -> Result<(), Fail> {
+fn stores_conditionally(rt: HostRuntime) -> Result<(), Fail> {
     let x2 = 0x0123_4567_89ab_cdef;
     for (word, stored, rd, bytes) in [
         (0x1820_a1af, true, Some(0), Some((0x89ab_cdef, 4))),
@@ -297,6 +297,11 @@ fn stores_conditionally_and_counts(rt: HostRuntime) -> Result<(), Fail> {
             bytes.map(|_| 0x8000_1008)
         );
     }
+    Ok(())
+}
+
+#[test]
+fn counts_what_retires_without_a_trap(rt: HostRuntime) -> Result<(), Fail> {
     let mut hart = Hart::new(0, BASE);
     let nop = image_of(rt.alloc(), 0x13)?;
     let call = image_of(rt.alloc(), 0x73)?;

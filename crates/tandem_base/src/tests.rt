@@ -47,7 +47,7 @@ fn extends_and_multiplies(rt: HostRuntime) {
 }
 
 #[test]
-fn divides(rt: HostRuntime) {
+fn divides_64_bits(rt: HostRuntime) {
     for (a, b, quotient, remainder, unsigned_quotient, unsigned_remainder) in [
         (7, 2, 3, 1, 3, 1),
         (
@@ -78,6 +78,10 @@ fn divides(rt: HostRuntime) {
         assert_eq!(rt; divu(a, b), unsigned_quotient, "at {a} {b}");
         assert_eq!(rt; remu(a, b), unsigned_remainder, "at {a} {b}");
     }
+}
+
+#[test]
+fn divides_32_bits(rt: HostRuntime) {
     for (a, b, quotient, remainder, unsigned_quotient, unsigned_remainder) in [
         (7, 2, 3, 1, 3, 1),
         (u32::MAX - 6, 2, u32::MAX - 2, u32::MAX, 0x7fff_fffc, 1),

@@ -63,7 +63,7 @@ fn csr(number: u16, value: u64) -> Option<CsrValue> {
 }
 
 #[test]
-fn tells_verdicts(rt: HostRuntime) {
+fn tells_acceptance_and_limits(rt: HostRuntime) {
     let most = u64::MAX;
     tells(
         &rt,
@@ -103,6 +103,11 @@ fn tells_verdicts(rt: HostRuntime) {
         passed(Limit::Messages, 0, 8),
         b"UNDECIDED message=8 limit=MESSAGES hart=- count=8",
     );
+}
+
+#[test]
+fn tells_frames_that_break_their_form(rt: HostRuntime) {
+    let most = u64::MAX;
     tells(
         &rt,
         unread(
@@ -142,7 +147,7 @@ fn tells_verdicts(rt: HostRuntime) {
 }
 
 #[test]
-fn tells_faults(rt: HostRuntime) {
+fn tells_faults_of_the_stream(rt: HostRuntime) {
     let most = u64::MAX;
     details(&rt, Fault::BadOpen, b"3 BadOpen hart=1 tag=7");
     details(&rt, Fault::BadHart, b"4 BadHart hart=1 tag=7");
@@ -157,6 +162,11 @@ fn tells_faults(rt: HostRuntime) {
         Fault::TagOrder { last: most },
         b"17 TagOrder hart=1 tag=7 last=18446744073709551615",
     );
+    details(&rt, Fault::Unbuilt, b"99 Unbuilt hart=1 tag=7");
+}
+
+#[test]
+fn tells_faults_of_the_way(rt: HostRuntime) {
     details(
         &rt,
         Fault::Pc {
@@ -192,11 +202,15 @@ fn tells_faults(rt: HostRuntime) {
     details(
         &rt,
         Fault::NextPc {
-            want: most,
+            want: u64::MAX,
             got: 0xabc_def0,
         },
         b"23 NextPc hart=1 tag=7 want=0xffffffffffffffff got=0xabcdef0",
     );
+}
+
+#[test]
+fn tells_faults_of_the_register(rt: HostRuntime) {
     details(
         &rt,
         Fault::Rd {
@@ -229,6 +243,10 @@ fn tells_faults(rt: HostRuntime) {
         },
         b"24 Rd hart=1 tag=7 want=- got=x5:0x10",
     );
+}
+
+#[test]
+fn tells_faults_of_the_csrs(rt: HostRuntime) {
     details(
         &rt,
         Fault::Csr {
@@ -247,7 +265,6 @@ fn tells_faults(rt: HostRuntime) {
         },
         b"25 Csr hart=1 tag=7 index=3 want=- got=0x343:0xdeadbeef",
     );
-    details(&rt, Fault::Unbuilt, b"99 Unbuilt hart=1 tag=7");
 }
 
 #[test]

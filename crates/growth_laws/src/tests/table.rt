@@ -134,30 +134,42 @@ fn insn_of(kind: Kind, rd: u8, rs1: u8, rs2: u8) -> Insn {
             rd: 0,
             rs1: 0,
         },
-        Kind::Lr => Insn::Lr {
-            wide: false,
-            aq: false,
-            rl: false,
-            rd,
-            rs1,
-        },
-        Kind::Sc => Insn::Sc {
-            wide: false,
-            aq: false,
-            rl: false,
-            rd,
-            rs1,
-            rs2,
-        },
-        Kind::Amoadd => Insn::Amo {
-            op: AmoOp::Add,
-            wide: false,
-            aq: false,
-            rl: false,
-            rd,
-            rs1,
-            rs2,
-        },
+        Kind::Lr => lr(rd, rs1),
+        Kind::Sc => sc(rd, rs1, rs2),
+        Kind::Amoadd => amoadd(rd, rs1, rs2),
+    }
+}
+
+fn lr(rd: u8, rs1: u8) -> Insn {
+    Insn::Lr {
+        wide: false,
+        aq: false,
+        rl: false,
+        rd,
+        rs1,
+    }
+}
+
+fn sc(rd: u8, rs1: u8, rs2: u8) -> Insn {
+    Insn::Sc {
+        wide: false,
+        aq: false,
+        rl: false,
+        rd,
+        rs1,
+        rs2,
+    }
+}
+
+fn amoadd(rd: u8, rs1: u8, rs2: u8) -> Insn {
+    Insn::Amo {
+        op: AmoOp::Add,
+        wide: false,
+        aq: false,
+        rl: false,
+        rd,
+        rs1,
+        rs2,
     }
 }
 
