@@ -2,3 +2,4 @@ pub mod Formats
 pub mod Operations
 pub mod Listing
 pub mod Decoding
+pub mod Registers

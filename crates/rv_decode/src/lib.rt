@@ -15,6 +15,7 @@ mod instruction;
 mod integer;
 mod laws;
 mod operations;
+pub mod registers;
 mod rows;
 mod signed;
 mod words;

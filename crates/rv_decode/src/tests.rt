@@ -3,6 +3,8 @@
 use crate::{AmoOp, BranchOp, CsrOp, ImmOp, Insn, LoadOp, RegOp, StoreOp, decode, encode};
 use std::process::Abort;
 
+mod registers;
+
 macro_rules! branch {
     ($op:ident, $rs1:literal, $rs2:literal, $imm:expr) => {
         Insn::Branch { op: BranchOp::$op, rs1: $rs1, rs2: $rs2, imm: $imm }
