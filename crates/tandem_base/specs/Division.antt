@@ -1,9 +1,9 @@
 -- Division (Unprivileged ISA 20191213, section 7.2). Quotients are rounded toward zero, and a
 -- remainder has the dividend's sign. Division by 0 gives the quotient of all ones and the dividend
--- as remainder. Where the least number is divided by -1 the quotient is the dividend, since its
--- size has no positive number, and the remainder is 0.
+-- as remainder. Where the least number is divided by -1 the quotient is the dividend, since no
+-- positive number has its magnitude, and the remainder is 0.
 use Rattle.std.specs.Prelude.{ℕ, ◌-◌, ◌/◌, ◌%◌, ◌^◌, Bool, true, false, nat_eq, if◌then◌else◌}
-use Rattle.tandem_base.specs.Signs.{is_negative, size_of, with_sign}
+use Rattle.tandem_base.specs.Signs.{is_negative, magnitude, with_sign}
 
 -- one of the two has a sign and the other has none
 abbrev pub signs_differ : ℕ → ℕ → ℕ → Bool
@@ -17,14 +17,14 @@ abbrev pub div_of : ℕ → ℕ → ℕ → ℕ
 div_of width a b =
     if nat_eq b 0
     then 2 ^ width - 1
-    else with_sign width (signs_differ width a b) (size_of width a / size_of width b)
+    else with_sign width (signs_differ width a b) (magnitude width a / magnitude width b)
 
 -- REM, and REMW on 32 bits
 abbrev pub rem_of : ℕ → ℕ → ℕ → ℕ
 rem_of width a b =
     if nat_eq b 0
     then a
-    else with_sign width (is_negative width a) (size_of width a % size_of width b)
+    else with_sign width (is_negative width a) (magnitude width a % magnitude width b)
 
 -- DIVU, and DIVUW on 32 bits
 abbrev pub divu_of : ℕ → ℕ → ℕ → ℕ

@@ -1,6 +1,10 @@
 pub mod Bytes
+pub mod Puts
+pub mod Texts
+pub mod FirstFault
 pub mod Extents
 pub mod Signs
 pub mod Multiplication
 pub mod Division
 pub mod Places
+pub mod CsrNumbers

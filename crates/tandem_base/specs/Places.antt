@@ -1,10 +1,10 @@
 -- The order of places.
-use Rattle.std.specs.Prelude.{◌≡◌, ◌<◌, ◌⊎◌}
+use Rattle.std.specs.Prelude.{◌==◌, ◌&&◌, ◌||◌, nat_lt, Bool}
 use Rattle.tandem_base.specs.declared.names.Place.{Place}
 
 -- the first place comes before the second: by time, then by message, then by Insert
-abbrev pub Precedes : Place → Place → Type 0
-Precedes a b =
-    (a.time < b.time)
-    ⊎ ((a.time ≡ b.time)
-    × ((a.message < b.message) ⊎ ((a.message ≡ b.message) × (a.insert < b.insert))))
+abbrev pub earlier : Place → Place → Bool
+earlier a b =
+    nat_lt a.time b.time
+    || ((a.time == b.time)
+    && (nat_lt a.message b.message || ((a.message == b.message) && nat_lt a.insert b.insert)))

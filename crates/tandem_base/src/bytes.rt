@@ -1,5 +1,7 @@
+//! One to eight bytes in a row.
+
 ghost use Rattle.std.specs.Prelude.{◌≡◌, ◌<◌, ◌≤◌, ◌↔◌, length, slice_index, IsSome, IfSome};
-ghost use Rattle.tandem_base.specs.Bytes.{number_of};
+ghost use Rattle.tandem_base.specs.Bytes.{little_endian};
 
 use std::marker::Model;
 
@@ -18,7 +20,8 @@ impl Model for Bytes8 {
 
     ghost view = { λ b. take b.len b.bytes };
 
-    ghost invariant = { λ b. (1 ≤ b.len) × (b.len ≤ 8) × (length (take b.len b.bytes) ≡ b.len) × (padded (take b.len b.bytes) ≡ b.bytes) };
+    ghost invariant = { λ b. (1 ≤ b.len) × (b.len ≤ 8) × (length (take b.len b.bytes) ≡ b.len)
+        × (padded (take b.len b.bytes) ≡ b.bytes) };
 
     ghost inverse = { λ bytes. record { bytes = padded bytes; len = length bytes } };
 }
@@ -59,7 +62,7 @@ impl Bytes8 {
 
     /// The number that the bytes are, lowest byte first.
     pub fn number(&self) -> u64
-        ensures { result ≡ number_of self.now }
+        ensures { result ≡ little_endian self.now }
     {
         u64::from_le_bytes(self.bytes)
     }

@@ -1,10 +1,14 @@
+//! The bytes that an access covers.
+
 ghost use Rattle.std.specs.Prelude.{◌≡◌, ◌+◌, ◌^◌, ◌≤◌, ◌↔◌, ℕ, IsTrue, IsSome, IfSome};
 
 /// The bytes that an access covers: `len` of them, from 1 to 8, from the address `addr` up. An
 /// extent never passes the top of the address space.
 #[derive(Clone, Copy, Debug, PartialEq, Eq)]
 pub struct Extent {
+    /// The lowest address.
     pub addr: u64,
+    /// How many bytes, from 1 to 8.
     pub len: u8,
     pub ghost sized: { (1 ≤ len) × (len ≤ 8) },
     pub ghost within: { addr + len ≤ 2 ^ 64 },

@@ -1,7 +1,7 @@
 //! Places and names of memory operations.
 
-ghost use Rattle.std.specs.Prelude.{◌≡◌, ◌↔◌, ◌⊎◌, IsTrue};
-ghost use Rattle.tandem_base.specs.Places.{Precedes};
+ghost use Rattle.std.specs.Prelude.{◌≡◌, ◌⊎◌, true, false};
+ghost use Rattle.tandem_base.specs.Places.{earlier};
 ghost use Rattle.tandem_base.specs.declared.names.Place.{Place};
 
 /// When an operation was performed: the time and number of the message that performed it, and for
@@ -9,15 +9,18 @@ ghost use Rattle.tandem_base.specs.declared.names.Place.{Place};
 /// fields, from first to last.
 #[derive(Clone, Copy, Debug, PartialEq, Eq, PartialOrd, Ord)]
 pub struct Place {
+    /// The time of the message, in the units that the reports use.
     pub time: u64,
+    /// The number of the message, from 1.
     pub message: u64,
+    /// The number of the Insert, from 1, and 0 where none is meant.
     pub insert: u64,
 }
 
 impl Place {
     /// Whether this place comes before the other: what `<` says of places.
     pub fn is_before(&self, other: &Place) -> bool
-        ensures { IsTrue result ↔ Precedes self.now other.now }
+        ensures { result ≡ earlier self.now other.now }
     {
         self < other
     }
@@ -25,24 +28,29 @@ impl Place {
 
 /// The order of places is total: a law, with nothing to do.
 pub fn places_are_ordered()
-    ensures each_two { (a b : Place) → Precedes a b ⊎ (a ≡ b) ⊎ Precedes b a }
-    ensures irreflexive { (a : Place) → ¬ Precedes a a }
-    ensures transitive { (a b c : Place) → Precedes a b → Precedes b c → Precedes a c }
+    ensures each_two { (a b : Place) → (earlier a b ≡ true) ⊎ (a ≡ b) ⊎ (earlier b a ≡ true) }
+    ensures irreflexive { (a : Place) → earlier a a ≡ false }
+    ensures transitive { (a b c : Place) → earlier a b ≡ true → earlier b c ≡ true → earlier a c ≡ true }
 {}
 
 /// The name of a memory operation: its hart, the tag of its instruction, and the offset of its
 /// lowest byte within the instruction's extent.
 #[derive(Clone, Copy, Debug, PartialEq, Eq, PartialOrd, Ord)]
 pub struct OpName {
+    /// The number of the hart, from 0.
     pub hart: u8,
+    /// The tag that its instruction was given.
     pub tag: u64,
+    /// How many bytes it begins behind the instruction's address.
     pub part: u8,
 }
 
 /// The hart and tag of an instruction, by which sources are told apart.
 #[derive(Clone, Copy, Debug, PartialEq, Eq, PartialOrd, Ord)]
 pub struct Origin {
+    /// The number of the hart, from 0.
     pub hart: u8,
+    /// The tag that the instruction was given.
     pub tag: u64,
 }
 
@@ -50,7 +58,10 @@ pub struct Origin {
 /// the writer's operation on the byte, None where the source is initial or not performed.
 #[derive(Clone, Copy, Debug, PartialEq, Eq)]
 pub struct Source1 {
+    /// The instruction that wrote the byte.
     pub writer: Option<Origin>,
+    /// When it was written.
     pub place: Option<Place>,
+    /// The byte.
     pub byte: u8,
 }

@@ -1,8 +1,8 @@
+//! What no clause says: results at the ends of the ranges, worked out with whole numbers of any size.
+
 use super::*;
 use std::cmp::Ordering;
 use std::test::Fail;
-
-// Results at the ends of the ranges, worked out with whole numbers of any size.
 
 #[test]
 fn extends_and_multiplies(rt: HostRuntime) {
@@ -46,65 +46,39 @@ fn extends_and_multiplies(rt: HostRuntime) {
     }
 }
 
+// The same rows at both widths: a dividend, a divisor, the signed quotient and remainder, and the
+// unsigned ones. Their numbers with a sign are written as the patterns that stand for them.
+macro_rules! divides {
+    ($rt:ident, $word:ident, $high:literal, $div:ident, $rem:ident, $divu:ident, $remu:ident) => {
+        let least: $word = 1 << $high;
+        let minus = |n: $word| n.wrapping_neg();
+        for [a, b, quotient, remainder, unsigned_quotient, unsigned_remainder] in [
+            [7, 2, 3, 1, 3, 1],
+            [minus(7), 2, minus(3), minus(1), least - 4, 1],
+            [7, minus(2), minus(3), 1, 0, 7],
+            [minus(7), minus(2), 3, minus(1), 0, minus(7)],
+            [7, 0, minus(1), 7, minus(1), 7],
+            [minus(7), 0, minus(1), minus(7), minus(1), minus(7)],
+            [least, minus(1), least, 0, 0, least],
+            [least, least, 1, 0, 1, 0],
+            [minus(1), least, 0, minus(1), 1, least - 1],
+        ] {
+            assert_eq!($rt; $div(a, b), quotient, "at {a} {b}");
+            assert_eq!($rt; $rem(a, b), remainder, "at {a} {b}");
+            assert_eq!($rt; $divu(a, b), unsigned_quotient, "at {a} {b}");
+            assert_eq!($rt; $remu(a, b), unsigned_remainder, "at {a} {b}");
+        }
+    };
+}
+
 #[test]
 fn divides_64_bits(rt: HostRuntime) {
-    for (a, b, quotient, remainder, unsigned_quotient, unsigned_remainder) in [
-        (7, 2, 3, 1, 3, 1),
-        (
-            u64::MAX - 6,
-            2,
-            u64::MAX - 2,
-            u64::MAX,
-            0x7fff_ffff_ffff_fffc,
-            1,
-        ),
-        (7, u64::MAX - 1, u64::MAX - 2, 1, 0, 7),
-        (u64::MAX - 6, u64::MAX - 1, 3, u64::MAX, 0, u64::MAX - 6),
-        (7, 0, u64::MAX, 7, u64::MAX, 7),
-        (
-            u64::MAX - 6,
-            0,
-            u64::MAX,
-            u64::MAX - 6,
-            u64::MAX,
-            u64::MAX - 6,
-        ),
-        (1 << 63, u64::MAX, 1 << 63, 0, 0, 1 << 63),
-        (1 << 63, 1 << 63, 1, 0, 1, 0),
-        (u64::MAX, 1 << 63, 0, u64::MAX, 1, 0x7fff_ffff_ffff_ffff),
-    ] {
-        assert_eq!(rt; div(a, b), quotient, "at {a} {b}");
-        assert_eq!(rt; rem(a, b), remainder, "at {a} {b}");
-        assert_eq!(rt; divu(a, b), unsigned_quotient, "at {a} {b}");
-        assert_eq!(rt; remu(a, b), unsigned_remainder, "at {a} {b}");
-    }
+    divides!(rt, u64, 63, div, rem, divu, remu);
 }
 
 #[test]
 fn divides_32_bits(rt: HostRuntime) {
-    for (a, b, quotient, remainder, unsigned_quotient, unsigned_remainder) in [
-        (7, 2, 3, 1, 3, 1),
-        (u32::MAX - 6, 2, u32::MAX - 2, u32::MAX, 0x7fff_fffc, 1),
-        (7, u32::MAX - 1, u32::MAX - 2, 1, 0, 7),
-        (u32::MAX - 6, u32::MAX - 1, 3, u32::MAX, 0, u32::MAX - 6),
-        (7, 0, u32::MAX, 7, u32::MAX, 7),
-        (
-            u32::MAX - 6,
-            0,
-            u32::MAX,
-            u32::MAX - 6,
-            u32::MAX,
-            u32::MAX - 6,
-        ),
-        (1 << 31, u32::MAX, 1 << 31, 0, 0, 1 << 31),
-        (1 << 31, 1 << 31, 1, 0, 1, 0),
-        (u32::MAX, 1 << 31, 0, u32::MAX, 1, 0x7fff_ffff),
-    ] {
-        assert_eq!(rt; div32(a, b), quotient, "at {a} {b}");
-        assert_eq!(rt; rem32(a, b), remainder, "at {a} {b}");
-        assert_eq!(rt; divu32(a, b), unsigned_quotient, "at {a} {b}");
-        assert_eq!(rt; remu32(a, b), unsigned_remainder, "at {a} {b}");
-    }
+    divides!(rt, u32, 31, div32, rem32, divu32, remu32);
 }
 
 #[test]
@@ -157,4 +131,13 @@ fn orders_places_and_holds_bytes(rt: HostRuntime) -> Result<(), Fail> {
     assert_eq!(rt; eight.number(), 0x0807_0605_0403_0201);
     places_are_ordered();
     Ok(())
+}
+
+#[test]
+fn puts_a_text_and_names_csrs(rt: HostRuntime) {
+    let mut out = *b"0123456789";
+    assert_eq!(rt; put(&mut out, 3, b"abc"), 6);
+    assert_eq!(rt; &out, b"012abc6789");
+    csrs::csrs_have_their_numbers();
+    assert_eq!(rt; (csrs::MTVAL, csrs::MHARTID), (0x343, 0xf14));
 }
