@@ -1,5 +1,6 @@
 -- Segments that share no address, put in the order of their bases.
-use Rattle.std.proofs.Common.{◌≡◌, ◌∙◌, ℕ, zero, suc, ◌+◌, ◌-◌, ◌<◌, ◌≤◌, Bool, true, false, cond, ◌⊎◌, inl, inr, List, [], ◌∷◌, length, map, get_or, slice_index, refl, sym, ap, arith, Option, None, Some}
+use Rattle.std.proofs.Common.{◌≡◌, ◌∙◌, ℕ, zero, suc, ◌+◌, ◌-◌, ◌<◌, ◌≤◌, Bool, true, false, cond, ◌⊎◌, inl, inr, List}
+use Rattle.std.proofs.Common.{[], ◌∷◌, length, map, get_or, slice_index, refl, sym, ap, arith, Option, None, Some}
 use Rattle.std.specs.List.{All, AllPairs, Contains, find, sum_by}
 use Rattle.std.specs.List.Sorted.{IsNonDecreasingBy, IsPermutation}
 use Rattle.std.specs.Option.{option_map, option_or}
@@ -11,7 +12,8 @@ use Rattle.std.proofs.lemmas.List.Sorted.{All-permutation, Contains-permutation,
 use Rattle.elf_image.specs.declared.program.ProgramHeader.{ProgramHeader}
 use Rattle.elf_image.specs.declared.range.Range.{Range}
 use Rattle.elf_image.specs.Elf.{is_misplaced, loaded, meets, overlap_fault}
-use Rattle.elf_image.specs.Images.{Segment, segment_byte, is_within}
+use Rattle.elf_image.specs.Images.{Segment, segment_byte}
+use Rattle.tandem_base.specs.Extents.{is_among}
 use Rattle.elf_image.specs.Tables.{EndsBefore, IsInFile, load_range, range_holds, segment_in}
 use Rattle.elf_image.proofs.Found.{segment_byte-held, segment_byte-none}
 
@@ -112,7 +114,8 @@ sorted_apart loads table none sized moved rise =
 -- a segment that isn't misplaced has its file bytes in the file
 placed_in_file : (file : List ℕ) (load : ProgramHeader) → is_misplaced (length file) load ≡ false
     → IsInFile file (load_range load)
-placed_in_file file load placed some = grind (arith, nat_tests)
+placed_in_file file load placed =
+    record { in_range = grind (arith, nat_tests); in_file = λ some. grind (arith, nat_tests) }
 
 pub sorted_in_file : (loads : List ProgramHeader) (table : List Range) → IsPermutation (map load_range loads) table
     → (file : List ℕ) → find (is_misplaced (length file)) loads ≡ None → All (IsInFile file) table
@@ -136,7 +139,8 @@ given_next file a rest x r fails given =
       held = given.held;
       byte =
           ap (λ (o : Option Segment). option_map (λ (s : Segment). slice_index s.bytes (x - s.base)) o)
-          (cond-false (range_holds x a) (Some (segment_in file a)) (find (λ s. is_within s.base s.size x) (map (segment_in file) rest)) fails)
+          (cond-false (range_holds x a) (Some (segment_in file a))
+          (find (λ s. is_among s.base s.size x) (map (segment_in file) rest)) fails)
           ∙ given.byte;
     }
 
@@ -153,7 +157,8 @@ given_cases file (a ∷ rest) x =
               held = held;
               byte =
                   ap (λ (o : Option Segment). option_map (λ (s : Segment). slice_index s.bytes (x - s.base)) o)
-                  (cond-true (range_holds x a) (Some (segment_in file a)) (find (λ s. is_within s.base s.size x) (map (segment_in file) rest)) held);
+                  (cond-true (range_holds x a) (Some (segment_in file a))
+                  (find (λ s. is_among s.base s.size x) (map (segment_in file) rest)) held);
             },
           )
       | inr fails ↦

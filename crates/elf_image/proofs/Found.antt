@@ -1,12 +1,17 @@
 -- What a look-up in the tables of an image finds.
-use Rattle.std.proofs.Common.{◌≡◌, ℕ, zero, suc, ◌+◌, ◌-◌, ◌^◌, ◌<◌, ◌≤◌, true, false, cond, List, [], ◌∷◌, length, map, get_or, refl, sym, subst, inl, inr, arith, Option, None, Some, slice_index, IfSome, IfNone, IsSome, ap, ◌∙◌}
+use Rattle.std.proofs.Common.{◌≡◌, ℕ, zero, suc, ◌+◌, ◌-◌, ◌^◌, ◌<◌, ◌≤◌, true, false, cond, List, [], ◌∷◌, length, map}
+use Rattle.std.proofs.Common.{get_or, refl, subst, inl, inr, arith, Option, None, Some, slice_index}
+use Rattle.std.proofs.Common.{IsSome, ap, ◌∙◌}
 use Rattle.std.specs.List.{All, AllPairs, Contains, find}
-use Rattle.std.specs.Option.{option_and, option_map, option_or}
-use Rattle.std.proofs.lemmas.Bool.{and_from, and_parts, cases_lt, le-leb, lt-ltb, leb-true, ltb-true, cond-true, cond-false, cond_both, both_ways}
+use Rattle.std.specs.Option.{option_map, option_or}
+use Rattle.std.proofs.lemmas.Bool.{and_from, and_parts, cases_lt, le-leb, lt-ltb, leb-true, ltb-true, cond-true}
+use Rattle.std.proofs.lemmas.Bool.{cond-false, cond_both, both_ways}
 use Rattle.std.proofs.lemmas.List.Elements.{All-tail, All-head}
 use Rattle.elf_image.specs.declared.range.Range.{Range}
-use Rattle.elf_image.specs.Images.{ImageOf, byte_of, segment_byte, ram_byte, is_within, Segment, Span, word_at, word_of}
-use Rattle.elf_image.specs.Tables.{EndsBefore, range_holds, segment_in, span_in, image_in, range_byte}
+use Rattle.elf_image.specs.Images.{Loaded, loaded_of, byte_of, segment_byte, ram_byte, Segment, Span}
+use Rattle.tandem_base.specs.Extents.{is_among}
+use Rattle.elf_image.specs.Images.{word_at}
+use Rattle.elf_image.specs.Tables.{EndsBefore, range_holds, segment_in, span_in, image_in, range_byte, range_word}
 use Rattle.elf_image.proofs.Located.{ends_below}
 
 -- the parts of what a range holds
@@ -22,7 +27,7 @@ pairs_tail a rest apart i j d lt below = apart (suc i) (suc j) d (omega arith) (
 -- of ranges that end before each other, the one that holds x is the first that does
 find_at : (file : List ℕ) (ranges : List Range) (k : ℕ) (r : Range) (x : ℕ) → AllPairs EndsBefore ranges
     → k < length ranges → get_or ranges k r ≡ r → range_holds x r ≡ true
-    → find (λ s. is_within s.base s.size x) (map (segment_in file) ranges) ≡ Some (segment_in file r)
+    → find (λ s. is_among s.base s.size x) (map (segment_in file) ranges) ≡ Some (segment_in file r)
 find_at file [] k r x apart below at held = absurd (omega arith)
 find_at file (a ∷ rest) zero r x apart below at held = rw at (cond-true _ _ _ held)
 find_at file (a ∷ rest) (suc k) r x apart below at held =
@@ -38,7 +43,7 @@ segment_byte-held file ranges r x apart among held =
     (find_at file ranges among.0 r x apart among.1 among.2 held)
 
 find_none : (file : List ℕ) (ranges : List Range) (x : ℕ) → All (λ r. range_holds x r ≡ false) ranges
-    → find (λ s. is_within s.base s.size x) (map (segment_in file) ranges) ≡ None
+    → find (λ s. is_among s.base s.size x) (map (segment_in file) ranges) ≡ None
 find_none file [] x outside = refl
 find_none file (a ∷ rest) x outside =
     cond-false _ _ _ (All-head (λ r. range_holds x r ≡ false) a rest outside)
@@ -56,9 +61,10 @@ ram_byte_at : (ranges : List Range) (k : ℕ) (r : Range) (x : ℕ)
 ram_byte_at [] k r x below at held = absurd (omega arith)
 ram_byte_at (a ∷ rest) zero r x below at held =
     let here : range_holds x a ≡ true = rw at held in
-    ap (λ b. option_map {U = ℕ} (λ (s : Span). 0) (cond b (Some (span_in a)) (find (λ s. is_within s.base s.size x) (map span_in rest)))) here
+    ap (λ b. option_map {U = ℕ} (λ (s : Span). 0)
+    (cond b (Some (span_in a)) (find (λ s. is_among s.base s.size x) (map span_in rest)))) here
 ram_byte_at (a ∷ rest) (suc k) r x below at held =
-    cond_both (range_holds x a) (Some (span_in a)) (find (λ s. is_within s.base s.size x) (map span_in rest))
+    cond_both (range_holds x a) (Some (span_in a)) (find (λ s. is_among s.base s.size x) (map span_in rest))
     (λ o. option_map {U = ℕ} (λ (s : Span). 0) o ≡ Some 0)
     (λ _. refl) (λ _. ram_byte_at rest k r x (omega arith) at held)
 
@@ -72,7 +78,7 @@ pub ram_byte-none : (ranges : List Range) (x : ℕ)
     → ram_byte (map span_in ranges) x ≡ None
 ram_byte-none [] x outside = refl
 ram_byte-none (a ∷ rest) x outside =
-    cond_both (range_holds x a) (Some (span_in a)) (find (λ s. is_within s.base s.size x) (map span_in rest))
+    cond_both (range_holds x a) (Some (span_in a)) (find (λ s. is_among s.base s.size x) (map span_in rest))
     (λ o. option_map {U = ℕ} (λ (s : Span). 0) o ≡ None)
     (λ yes. absurd (both_ways _ (All-head (λ r. range_holds x r ≡ false) a rest outside) yes))
     (λ _. ram_byte-none rest x (All-tail (λ r. range_holds x r ≡ false) a rest outside))
@@ -100,17 +106,6 @@ byte_of-none entry segments rams file x outside outside' =
     ap (λ o. option_or o (ram_byte (map span_in rams) x)) (segment_byte-none file segments x outside)
     ∙ ram_byte-none rams x outside'
 
--- what a look-up in RAM alone says, where no segment holds x
-pub byte_of-rest : (entry : ℕ) (segments rams : List Range) (file : List ℕ) (found : Option Range) (x : ℕ)
-    → All (λ r. range_holds x r ≡ false) segments
-    → IfSome found (λ r. Contains rams r × (range_holds x r ≡ true))
-    → IfNone found (All (λ r. range_holds x r ≡ false) rams)
-    → option_and found (Some 0) ≡ byte_of (image_in entry segments rams file) x
-byte_of-rest entry segments rams file (Some r) x outside held none =
-    sym (byte_of-ram entry segments rams file r x outside held.0 held.1)
-byte_of-rest entry segments rams file None x outside held none =
-    sym (byte_of-none entry segments rams file x outside none)
-
 -- a range that holds x holds what follows x up to its end
 holds_on : (r : Range) (x n k : ℕ) → range_holds x r ≡ true → x + n ≡ r.base + r.size → k < n
     → range_holds (x + k) r ≡ true
@@ -119,13 +114,13 @@ holds_on r x n k held rest below =
     (lt-ltb (x + k) (r.base + r.size) (omega arith))
 
 -- the bytes from x up to the end of a range are there
-pub record AreHeld (image : ImageOf) (x n : ℕ) : Type 0 where
+pub record AreHeld (image : Loaded) (x n : ℕ) : Type 0 where
   pub some : 0 < n
-  pub each : (k : ℕ) → k < n → IsSome (byte_of image (x + k))
+  pub each : (k : ℕ) → k < n → IsSome (image.byte_at (x + k))
 
 pub held_in_segment : (entry : ℕ) (segments rams : List Range) (file : List ℕ) (r : Range) (x n : ℕ)
     → AllPairs EndsBefore segments → Contains segments r → range_holds x r ≡ true → x + n ≡ r.base + r.size
-    → AreHeld (image_in entry segments rams file) x n
+    → AreHeld (loaded_of (image_in entry segments rams file)) x n
 held_in_segment entry segments rams file r x n apart among held rest =
     record {
       some = omega (arith, holds_end r x held);
@@ -139,7 +134,7 @@ some_or None p e = rw e refl
 
 pub held_in_ram : (entry : ℕ) (segments rams : List Range) (file : List ℕ) (r : Range) (x n : ℕ)
     → Contains rams r → range_holds x r ≡ true → x + n ≡ r.base + r.size
-    → AreHeld (image_in entry segments rams file) x n
+    → AreHeld (loaded_of (image_in entry segments rams file)) x n
 unfolding byte_of
 held_in_ram entry segments rams file r x n among held rest =
     record {
@@ -150,38 +145,34 @@ held_in_ram entry segments rams file r x n among held rest =
     }
 
 -- what holds of the first n bytes and of the m that follow holds of them all
-pub held_further : (image : ImageOf) (x n m most : ℕ) → m ≤ most
-    → ((k : ℕ) → k < n → IsSome (byte_of image (x + k)))
-    → ((k : ℕ) → k < most → IsSome (byte_of image (x + n + k)))
-    → (k : ℕ) → k < n + m → IsSome (byte_of image (x + k))
+pub held_further : (image : Loaded) (x n m most : ℕ) → m ≤ most
+    → ((k : ℕ) → k < n → IsSome (image.byte_at (x + k)))
+    → ((k : ℕ) → k < most → IsSome (image.byte_at (x + n + k)))
+    → (k : ℕ) → k < n + m → IsSome (image.byte_at (x + k))
 held_further image x n m most le first next k below =
     elim (cases_lt k n) [
       | inl lt ↦ first k lt
       | inr ge ↦
           let e : x + n + (k - n) ≡ x + k = omega arith in
-          subst (λ (a : ℕ). IsSome (byte_of image a)) e (next (k - n) (omega arith))
+          subst (λ (a : ℕ). IsSome (image.byte_at a)) e (next (k - n) (omega arith))
     ]
 
 -- four bytes of one segment are a word
-word_of_segment : (entry : ℕ) (segments rams : List Range) (file : List ℕ) (r : Range) (x : ℕ)
-    → AllPairs EndsBefore segments → Contains segments r → range_holds x r ≡ true → x + 4 ≤ r.base + r.size
-    → word_of (byte_of (image_in entry segments rams file) x) (byte_of (image_in entry segments rams file) (x + 1))
-    (byte_of (image_in entry segments rams file) (x + 2)) (byte_of (image_in entry segments rams file) (x + 3))
-    ≡ word_of (Some (range_byte file r x)) (Some (range_byte file r (x + 1)))
-    (Some (range_byte file r (x + 2))) (Some (range_byte file r (x + 3)))
-word_of_segment entry segments rams file r x apart among held room =
-    let at : (k : ℕ) → k < 4 → byte_of (image_in entry segments rams file) (x + k) ≡ Some (range_byte file r (x + k)) =
-    λ k below.
-    byte_of-segment entry segments rams file r (x + k) apart among
-    (and_from _ _ (le-leb r.base (x + k) (omega (arith, holds_base r x held))) (lt-ltb (x + k) (r.base + r.size) (omega arith))) in
-    rw (byte_of-segment entry segments rams file r x apart among held, at 1 (omega arith), at 2 (omega arith), at 3 (omega arith)) refl
-
 pub word_at-segment : (entry : ℕ) (segments rams : List Range) (file : List ℕ) (r : Range) (x : ℕ)
     → AllPairs EndsBefore segments → Contains segments r → range_holds x r ≡ true → x + 4 ≤ r.base + r.size
     → x ≤ 2 ^ 64 - 4
-    → word_at (image_in entry segments rams file) x
-    ≡ word_of (Some (range_byte file r x)) (Some (range_byte file r (x + 1)))
-    (Some (range_byte file r (x + 2))) (Some (range_byte file r (x + 3)))
+    → word_at (loaded_of (image_in entry segments rams file)) x ≡ range_word file r x
 unfolding word_at
 word_at-segment entry segments rams file r x apart among held room top =
-    cond-true _ _ _ (le-leb x (2 ^ 64 - 4) top) ∙ word_of_segment entry segments rams file r x apart among held room
+    let at : (k : ℕ) → k < 4 → byte_of (image_in entry segments rams file) (x + k) ≡ Some (range_byte file r (x + k)) =
+    λ k below.
+    byte_of-segment entry segments rams file r (x + k) apart among
+    (and_from _ _ (le-leb r.base (x + k) (omega (arith, holds_base r x held)))
+    (lt-ltb (x + k) (r.base + r.size) (omega arith))) in
+    rw (
+      le-leb x (2 ^ 64 - 4) top,
+      byte_of-segment entry segments rams file r x apart among held,
+      at 1 (omega arith),
+      at 2 (omega arith),
+      at 3 (omega arith),
+    ) refl

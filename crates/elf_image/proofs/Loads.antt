@@ -24,4 +24,5 @@ takes_memory h e = ltb-true 0 h.size (and_parts _ _ e).1
 
 pub loads_sized : (headers : List ProgramHeader) → All (λ h. 0 < h.size) (filter is_load headers)
 loads_sized headers =
-    All-weaker (λ h. is_load h ≡ true) (λ h. 0 < h.size) takes_memory (filter is_load headers) (filter_passes is_load headers)
+    All-weaker (λ h. is_load h ≡ true) (λ h. 0 < h.size) takes_memory (filter is_load headers)
+    (filter_passes is_load headers)

@@ -1,5 +1,6 @@
 -- Ranges in the order of their bases, each widened to reach as far as those before it.
-use Rattle.std.proofs.Common.{◌≡◌, ◌∙◌, ℕ, zero, suc, ◌≤◌, Bool, true, false, cond, ◌||◌, List, [], ◌∷◌, map, refl, sym, ap, arith, Option, None, Some}
+use Rattle.std.proofs.Common.{◌≡◌, ◌∙◌, ℕ, zero, suc, ◌≤◌, Bool, true, false, cond, ◌||◌, List, [], ◌∷◌, map, refl, sym}
+use Rattle.std.proofs.Common.{ap, arith, Option, None, Some}
 use Rattle.std.specs.List.{All, AllPairs, find, list_any}
 use Rattle.std.specs.List.Sorted.{IsNonDecreasingBy, IsPermutation}
 use Rattle.std.specs.Option.{option_map}
@@ -9,7 +10,8 @@ use Rattle.std.proofs.lemmas.List.Kept.{AllPairs-cons}
 use Rattle.std.proofs.lemmas.List.Sorted.{list_any-IsPermutation}
 use Rattle.elf_image.specs.declared.ram.Ram.{Ram}
 use Rattle.elf_image.specs.declared.range.Range.{Range}
-use Rattle.elf_image.specs.Images.{Span, ram_byte, is_within}
+use Rattle.elf_image.specs.Images.{Span, ram_byte}
+use Rattle.tandem_base.specs.Extents.{is_among}
 use Rattle.elf_image.specs.Rams.{span_of}
 use Rattle.elf_image.specs.Tables.{Climbs, nowhere, ram_range, range_holds, reaching, span_in, widened}
 use Rattle.elf_image.proofs.Located.{ends_below}
@@ -80,7 +82,7 @@ ram_byte-any : (ranges : List Range) (x : ℕ)
     → ram_byte (map span_in ranges) x ≡ cond (list_any (range_holds x) ranges) (Some 0) None
 ram_byte-any [] x = refl
 ram_byte-any (r ∷ rest) x =
-    any_next (range_holds x r) (span_in r) (find (λ s. is_within s.base s.size x) (map span_in rest))
+    any_next (range_holds x r) (span_in r) (find (λ s. is_among s.base s.size x) (map span_in rest))
     (list_any (range_holds x) rest) (ram_byte-any rest x)
 
 spans_of_ram : (rams : List Ram) → map span_in (map ram_range rams) ≡ map span_of rams
@@ -95,6 +97,7 @@ ram_table_same rams sorted moved rise x =
     let wide = rw none at (widened_same x nowhere sorted (λ k d below. omega arith) rise) in
     ram_byte-any (widened nowhere sorted) x
     ∙ ap (λ (b : Bool). cond b (Some 0) None) wide
-    ∙ ap (λ (b : Bool). cond b (Some 0) None) (sym (list_any-IsPermutation (range_holds x) (map ram_range rams) sorted moved))
+    ∙ ap (λ (b : Bool). cond b (Some 0) None)
+    (sym (list_any-IsPermutation (range_holds x) (map ram_range rams) sorted moved))
     ∙ sym (ram_byte-any (map ram_range rams) x)
     ∙ ap (λ l. ram_byte l x) (spans_of_ram rams)

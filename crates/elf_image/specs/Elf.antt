@@ -1,5 +1,6 @@
 -- ELF64 files: the image that one describes, or its first fault.
-use Rattle.std.specs.Prelude.{ℕ, ◌+◌, ◌*◌, ◌%◌, ◌^◌, ◌==◌, Bool, not, ◌&&◌, ◌||◌, nat_eq, nat_lt, if◌then◌else◌, List, [], ◌∷◌, map, length, sum_by, take, drop, slice_index, Option, None, Some, Result, Ok}
+use Rattle.std.specs.Prelude.{ℕ, ◌+◌, ◌*◌, ◌%◌, ◌^◌, ◌==◌, Bool, not, ◌&&◌, ◌||◌, nat_eq, nat_lt, if◌then◌else◌, List}
+use Rattle.std.specs.Prelude.{[], ◌∷◌, map, length, sum_by, take, drop, slice_index, Option, None, Some, Result, Ok}
 use Rattle.std.specs.List.{filter, find, range_with_len, starts_with}
 use Rattle.std.specs.Option.{option_map, option_or}
 use Rattle.std.specs.Int.{w16, w32, w64, from_le_bytes}
@@ -7,7 +8,7 @@ use Rattle.elf_image.specs.declared.fault.ImageFault.{ImageFault}
 use Rattle.elf_image.specs.declared.fault.ImageFault.TheVariants as fault
 use Rattle.elf_image.specs.declared.program.ProgramHeader.{ProgramHeader}
 use Rattle.elf_image.specs.declared.ram.Ram.{Ram}
-use Rattle.elf_image.specs.Images.{Segment, ImageOf}
+use Rattle.elf_image.specs.Images.{Segment, Loaded, loaded_of}
 use Rattle.elf_image.specs.Rams.{span_of}
 use Rattle.elf_image.specs.Faults.{refuse, file_fault, limit_fault}
 
@@ -109,14 +110,15 @@ loaded bytes header =
     record { base = header.address; bytes = take header.file_size (drop header.offset bytes); size = header.size }
 
 -- the segments to be loaded from these bytes, and RAM: the image, or the first fault
-abbrev pub loads_image : List ℕ → List ProgramHeader → List Ram → Result ImageOf ImageFault
+abbrev pub loads_image : List ℕ → List ProgramHeader → List Ram → Result Loaded ImageFault
 loads_image bytes headers rams =
     refuse (segment_fault (length bytes) headers)
     (refuse (limit_fault (length headers + length rams) (sum_by (λ h. h.size) headers + sum_by (λ r. r.size) rams))
     (refuse (overlap_fault headers)
-    (Ok (record { entry = entry_of bytes; segments = map (loaded bytes) headers; rams = map span_of rams }))))
+    (Ok
+    (loaded_of (record { entry = entry_of bytes; segments = map (loaded bytes) headers; rams = map span_of rams })))))
 
 -- an ELF64 file and RAM: the image, or the first fault
-abbrev pub elf_of : List ℕ → List Ram → Result ImageOf ImageFault
+abbrev pub elf_of : List ℕ → List Ram → Result Loaded ImageFault
 elf_of bytes rams =
     refuse (file_fault bytes) (refuse (header_fault bytes) (loads_image bytes (loads bytes) rams))

@@ -1,19 +1,21 @@
 -- The faults that both readers know, and how a reader answers.
-use Rattle.std.specs.Prelude.{ℕ, ◌≡◌, ◌^◌, ◌⊎◌, nat_lt, if◌then◌else◌, List, length, Option, None, Some, Result, Ok, Err, IsOkAnd}
+use Rattle.std.specs.Prelude.{ℕ, ◌≡◌, ◌+◌, ◌^◌, ◌⊎◌, nat_lt, if◌then◌else◌, List, length, Option, None, Some, Result}
+use Rattle.std.specs.Prelude.{Ok, Err}
 use Rattle.elf_image.specs.declared.fault.ImageFault.{ImageFault}
 use Rattle.elf_image.specs.declared.fault.ImageFault.TheVariants as fault
 use Rattle.elf_image.specs.declared.fault.TooLarge.TheVariants as limit
-use Rattle.elf_image.specs.Images.{ImageOf, SameImage}
+use Rattle.elf_image.specs.declared.limits.TheConstants.{MOST_FILE_BYTES}
+use Rattle.elf_image.specs.Images.{ImageOf, Loaded, loaded_of}
 
 -- the first fault of a list of checks: this one's, else that of the rest
-abbrev pub refuse : Option ImageFault → Result ImageOf ImageFault → Result ImageOf ImageFault
+abbrev pub refuse : Option ImageFault → Result Loaded ImageFault → Result Loaded ImageFault
 refuse (Some found) rest = Err found
 refuse None rest = rest
 
--- a file above 2^28 bytes is read up to one byte past that limit
+-- a file above 2^28 bytes: it is read up to one byte past that limit
 abbrev pub file_fault : List ℕ → Option ImageFault
 file_fault bytes =
-    if nat_lt 268435456 (length bytes) then Some (fault.TooLarge (limit.File 268435457)) else None
+    if nat_lt MOST_FILE_BYTES (length bytes) then Some (fault.TooLarge (limit.File (MOST_FILE_BYTES + 1))) else None
 
 -- segments and RAM: at most 64 ranges, of at most 2^40 bytes together
 abbrev pub limit_fault : ℕ → ℕ → Option ImageFault
@@ -22,8 +24,7 @@ limit_fault count size =
     else if nat_lt (2 ^ 40) size then Some (fault.TooLarge (limit.Sum size))
     else None
 
--- what a reader may answer, where the file and the RAM have this meaning: that meaning, or
--- that memory is wanting
-abbrev pub Reads : Result ImageOf ImageFault → Result ImageOf ImageFault → Type 0
-Reads (Ok image) meaning = IsOkAnd meaning (SameImage image)
+-- a reader answers what the file and the RAM mean, or that memory is wanting
+abbrev pub Reads : Result ImageOf ImageFault → Result Loaded ImageFault → Type 0
+Reads (Ok image) meaning = meaning ≡ Ok (loaded_of image)
 Reads (Err found) meaning = (found ≡ fault.Memory) ⊎ (meaning ≡ Err found)

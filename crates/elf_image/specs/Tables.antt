@@ -1,15 +1,17 @@
 -- The tables in which an image keeps its ranges.
-use Rattle.std.specs.Prelude.{ℕ, ◌≡◌, ◌%◌, ◌+◌, ◌-◌, ◌≤◌, ◌<◌, max, Bool, List, [], ◌∷◌, length, map, take, drop, slice_index, Option, Some}
+use Rattle.std.specs.Prelude.{ℕ, ◌≡◌, ◌%◌, ◌+◌, ◌-◌, ◌≤◌, ◌<◌, max, Bool, List, [], ◌∷◌, length, map, take, drop}
+use Rattle.std.specs.Prelude.{slice_index, Option, Some}
 use Rattle.std.specs.List.{All, AllPairs}
 use Rattle.elf_image.specs.declared.program.ProgramHeader.{ProgramHeader}
 use Rattle.elf_image.specs.declared.ram.Ram.{Ram}
 use Rattle.elf_image.specs.declared.range.Range.{Range}
-use Rattle.elf_image.specs.Images.{Segment, Span, ImageOf, is_within, word_of}
+use Rattle.elf_image.specs.Images.{Segment, Span, ImageOf, word_of}
+use Rattle.tandem_base.specs.Extents.{is_among}
 use Rattle.elf_image.specs.Rams.{span_of}
 
 -- the range holds x
 abbrev pub range_holds : ℕ → Range → Bool
-range_holds x range = is_within range.base range.size x
+range_holds x range = is_among range.base range.size x
 
 -- the segment that a range of this file is
 abbrev pub segment_in : List ℕ → Range → Segment
@@ -38,9 +40,10 @@ Climbs a b = (a.base ≤ b.base) × (a.base + a.size ≤ b.base + b.size)
 abbrev pub EndsBefore : Range → Range → Type 0
 EndsBefore a b = a.base + a.size ≤ b.base
 
--- the range's run of file bytes lies in the file
-abbrev pub IsInFile : List ℕ → Range → Type 0
-IsInFile file range = 0 < range.len → range.start + range.len ≤ length file
+-- the range's run of file bytes lies in the range, and in the file where it isn't empty
+pub record IsInFile (file : List ℕ) (range : Range) : Type 0 where
+  pub in_range : range.len ≤ range.size
+  pub in_file : 0 < range.len → range.start + range.len ≤ length file
 
 -- what the tables of an image keep: segments that share no address, with their bytes in the file,
 -- and RAM in the order of both its bases and its ends

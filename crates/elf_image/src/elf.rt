@@ -1,3 +1,5 @@
+//! Images from ELF64 files.
+
 ghost use Rattle.std.specs.Prelude.{◌≡◌, ◌%◌, ◌<◌, ◌≤◌, length};
 ghost use Rattle.std.specs.List.{All};
 ghost use Rattle.elf_image.specs.Elf.{entry_of, loads_image};

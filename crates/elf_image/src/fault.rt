@@ -1,3 +1,5 @@
+//! Why a file is no image.
+
 ghost use Rattle.std.specs.Prelude.{◌≡◌};
 ghost use Rattle.elf_image.specs.declared.fault.ImageFault.TheVariants.{Memory};
 

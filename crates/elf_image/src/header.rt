@@ -1,6 +1,10 @@
+//! The file header of an ELF64 file.
+
 ghost use Rattle.std.specs.Prelude.{◌≡◌, ◌%◌, ◌≤◌, true, false, OnOk, IfOk, length, map};
 ghost use Rattle.std.specs.Result.{result_err};
-ghost use Rattle.elf_image.specs.Elf.{entry_of, table_offset, header_count, has_class, has_entry_size, has_table, header_fault, loads};
+ghost use Rattle.elf_image.specs.declared.limits.TheConstants.{MOST_FILE_BYTES};
+ghost use Rattle.elf_image.specs.Elf.{entry_of, table_offset, header_count, has_class, has_entry_size, has_table};
+ghost use Rattle.elf_image.specs.Elf.{header_fault, loads};
 
 use crate::fault::ImageFault;
 use crate::number::{u16_at, u64_at};
@@ -16,7 +20,7 @@ pub const ENTRY_SIZE: u64 = 56;
 
 /// The fault of the file header.
 pub fn check_header(bytes: &[u8]) -> Result<(), ImageFault>
-    requires { length bytes.now ≤ 268435456 }
+    requires { length bytes.now ≤ MOST_FILE_BYTES }
     ensures fault { result_err result ≡ header_fault bytes.now }
     ensures whole { OnOk result (64 ≤ length bytes.now) }
     ensures table { OnOk result (has_table bytes.now ≡ true) }

@@ -1,4 +1,6 @@
-ghost use Rattle.std.specs.Prelude.{◌≡◌, ◌+◌, ◌-◌, ◌^◌, ◌≤◌, true, Some};
+//! The image: a table of segments and one of RAM over the bytes of the file.
+
+ghost use Rattle.std.specs.Prelude.{◌≡◌, ◌+◌, ◌-◌, ◌≤◌, ◌↔◌, IsTrue, true, Some};
 ghost use Rattle.elf_image.specs.Tables.{IsInFile, range_byte, range_holds, range_word};
 
 use crate::ram::Ram;
@@ -30,9 +32,10 @@ impl Model for Image {
 }
 
 impl Image {
-    ghost use Rattle.std.specs.Prelude.{◌≡◌, ◌%◌, ◌+◌, ◌-◌, ◌^◌, ◌<◌, ◌≤◌, ◌↔◌, ℕ, IsTrue, IsSome, IfSome, IfNone, IfOk};
+    ghost use Rattle.std.specs.Prelude.{◌≡◌, ◌%◌, ◌+◌, ◌-◌, ◌^◌, ◌<◌, ◌≤◌, ◌↔◌, ℕ, IsTrue, IsSome, IfSome, IfNone};
+    ghost use Rattle.std.specs.Prelude.{IfOk};
     ghost use Rattle.std.specs.List.{All, AllPairs};
-    ghost use Rattle.elf_image.specs.Images.{byte_of, word_at, Holds, SameImage};
+    ghost use Rattle.elf_image.specs.Images.{loaded_of, word_at, Holds};
     ghost use Rattle.elf_image.specs.Tables.{EndsBefore, IsInFile, image_over};
 
     /// The image of a file's segments, which end before each other, and RAM.
@@ -46,7 +49,8 @@ impl Image {
         requires aligned { entry % 4 ≡ 0 }
         requires apart { AllPairs EndsBefore segments.items }
         requires in_file { All (IsInFile file.now) segments.items }
-        ensures { IfOk result (λ image. SameImage image (image_over entry segments.items file.now rams.now)) }
+        ensures { IfOk result (λ image. loaded_of image
+            ≡ loaded_of (image_over entry segments.items file.now rams.now)) }
     {
         let rams = ram_table(alloc, rams)?;
         let file = Vec::from_slice(alloc, file)?;
@@ -68,11 +72,14 @@ impl Image {
 
     /// The byte at an address. None exactly where no range holds it.
     pub fn byte(&self, addr: u64) -> Option<u8>
-        ensures { result ≡ byte_of self.now addr }
+        ensures { result ≡ (loaded_of self.now).byte_at addr }
     {
         match locate(&self.segments, addr) {
-            Some(range) => Some(file_byte(&range, &self.file, addr)),
-            None => locate(&self.rams, addr).and(Some(0)),
+            Some(range) => Some(file_byte(range, &self.file, addr)),
+            None => {
+                locate(&self.rams, addr)?;
+                Some(0)
+            }
         }
     }
 
@@ -80,25 +87,22 @@ impl Image {
     /// range, or the address is above 2^64 - 4.
     #[tactic(auto, unfolding(crate::specs::Images::word_at))]
     pub fn word(&self, addr: u64) -> Option<u32>
-        ensures { result ≡ word_at self.now addr }
+        ensures { result ≡ word_at (loaded_of self.now) addr }
     {
         if addr > u64::MAX - 3 {
             return None;
         }
-        let Some(range) = locate(&self.segments, addr) else {
-            return self.word_by_bytes(addr);
-        };
-        if rest_from(&range, addr) < 4 {
-            return self.word_by_bytes(addr);
+        match locate(&self.segments, addr) {
+            Some(range) if holds_word(range, addr) => Some(file_word(range, &self.file, addr)),
+            _ => self.word_by_bytes(addr),
         }
-        Some(file_word(&range, &self.file, addr))
     }
 
     /// The word at an address, each byte of which may be in a range of its own.
     #[tactic(auto, unfolding(crate::specs::Images::word_at))]
     fn word_by_bytes(&self, addr: u64) -> Option<u32>
         requires { addr ≤ 2 ^ 64 - 4 }
-        ensures { result ≡ word_at self.now addr }
+        ensures { result ≡ word_at (loaded_of self.now) addr }
     {
         let first = self.byte(addr)?;
         let second = self.byte(addr + 1)?;
@@ -109,7 +113,7 @@ impl Image {
 
     /// Whether every byte of the extent is in a range.
     pub fn holds(&self, extent: &Extent) -> bool
-        ensures { IsTrue result ↔ Holds self.now extent.now }
+        ensures { IsTrue result ↔ Holds (loaded_of self.now) extent.now }
     {
         let len = u64::from(extent.len);
         let mut held = 0;
@@ -125,12 +129,12 @@ impl Image {
     /// How many bytes from an address on are in the range that holds it. None where none does.
     fn run_at(&self, addr: u64) -> Option<u64>
         ensures some { IfSome result (λ run. 0 < run) }
-        ensures each { IfSome result (λ run. (k : ℕ) → k < run → IsSome (byte_of self.now (addr + k))) }
-        ensures none { IfNone result (byte_of self.now addr ≡ None) }
+        ensures each { IfSome result (λ run. (k : ℕ) → k < run → IsSome ((loaded_of self.now).byte_at (addr + k))) }
+        ensures none { IfNone result ((loaded_of self.now).byte_at addr ≡ None) }
     {
         match locate(&self.segments, addr) {
-            Some(range) => Some(rest_from(&range, addr)),
-            None => Some(rest_from(&locate(&self.rams, addr)?, addr)),
+            Some(range) => Some(rest_from(range, addr)),
+            None => Some(rest_from(locate(&self.rams, addr)?, addr)),
         }
     }
 }
@@ -157,18 +161,23 @@ fn file_byte(range: &Range, file: &[u8], addr: u64) -> u8
     }
 }
 
-/// The word of a range at an address from which it holds four bytes.
+/// Whether the file has four bytes of a range from an address that the range holds.
+fn holds_word(range: &Range, addr: u64) -> bool
+    requires { range_holds addr range.now ≡ true }
+    ensures { IsTrue result ↔ (addr - range.now.base + 4 ≤ range.now.len) }
+{
+    addr - range.base <= range.len && range.len - (addr - range.base) >= 4
+}
+
+/// The word of a range at an address from which the file has four bytes of it.
 fn file_word(range: &Range, file: &[u8], addr: u64) -> u32
     requires held { range_holds addr range.now ≡ true }
-    requires room { addr + 4 ≤ range.now.base + range.now.size }
-    requires top { addr ≤ 2 ^ 64 - 4 }
+    requires room { addr - range.now.base + 4 ≤ range.now.len }
     requires in_file { IsInFile file.now range.now }
     ensures { Some result ≡ range_word file.now range.now addr }
 {
-    u32::from_le_bytes([
-        file_byte(range, file, addr),
-        file_byte(range, file, addr + 1),
-        file_byte(range, file, addr + 2),
-        file_byte(range, file, addr + 3),
-    ])
+    let at = (range.start + (addr - range.base)) as usize;
+    let mut word = [0; 4];
+    word.copy_from_slice(&file[at..at + 4]);
+    u32::from_le_bytes(word)
 }

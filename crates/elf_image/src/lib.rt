@@ -2,20 +2,21 @@
 #![tactic(auto)]
 
 mod elf;
-pub mod fault;
+mod fault;
 mod flat;
 mod header;
-pub mod image;
+mod image;
 mod limits;
 mod number;
 mod program;
-pub mod ram;
+mod ram;
 mod range;
 mod segments;
 mod table;
 
 pub use fault::{ImageFault, TooLarge};
 pub use image::Image;
+pub use limits::MOST_FILE_BYTES;
 pub use ram::Ram;
 
 #[cfg(test)]

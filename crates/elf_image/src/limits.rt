@@ -1,26 +1,29 @@
+//! The limits of an image.
+
 ghost use Rattle.std.specs.Prelude.{◌≡◌, ◌^◌, ◌<◌, ◌≤◌, OnOk, length, sum_by};
 ghost use Rattle.std.specs.Result.{result_err};
+ghost use Rattle.elf_image.specs.declared.limits.TheConstants.{MOST_FILE_BYTES};
 ghost use Rattle.elf_image.specs.Faults.{file_fault, limit_fault};
 
 use crate::fault::{ImageFault, TooLarge};
 use crate::ram::Ram;
 
 /// The most bytes that an image file may have.
-const FILE_MOST: usize = 1 << 28;
+pub const MOST_FILE_BYTES: usize = 1 << 28;
 
 /// The most segments and RAM ranges that an image may have.
-const RANGES_MOST: u64 = 64;
+const MOST_RANGES: u64 = 64;
 
 /// The most bytes that they may have together.
-const SIZE_MOST: u128 = 1 << 40;
+const MOST_BYTES: u128 = 1 << 40;
 
 /// The fault of a file that is too long.
 pub fn check_file(bytes: &[u8]) -> Result<(), ImageFault>
     ensures fault { result_err result ≡ file_fault bytes.now }
-    ensures short { OnOk result (length bytes.now ≤ 268435456) }
+    ensures short { OnOk result (length bytes.now ≤ MOST_FILE_BYTES) }
 {
-    if bytes.len() > FILE_MOST {
-        let read = FILE_MOST as u64 + 1;
+    if bytes.len() > MOST_FILE_BYTES {
+        let read = MOST_FILE_BYTES as u64 + 1;
         return Err(ImageFault::TooLarge(TooLarge::File(read)));
     }
     Ok(())
@@ -30,10 +33,10 @@ pub fn check_file(bytes: &[u8]) -> Result<(), ImageFault>
 pub fn check_limits(count: u64, size: u128) -> Result<(), ImageFault>
     ensures { result_err result ≡ limit_fault count size }
 {
-    if count > RANGES_MOST {
+    if count > MOST_RANGES {
         return Err(ImageFault::TooLarge(TooLarge::Ranges(count)));
     }
-    if size > SIZE_MOST {
+    if size > MOST_BYTES {
         return Err(ImageFault::TooLarge(TooLarge::Sum(size)));
     }
     Ok(())

@@ -1,3 +1,5 @@
+//! Little-endian numbers in a file.
+
 ghost use Rattle.std.specs.Prelude.{◌≡◌, ◌+◌, ◌≤◌, length};
 ghost use Rattle.elf_image.specs.Elf.{u16_at, u32_at, u64_at};
 

@@ -1,8 +1,11 @@
+//! The program headers of an ELF64 file.
+
 ghost use Rattle.std.specs.Prelude.{◌≡◌, ◌+◌, ◌*◌, ◌^◌, ◌<◌, ◌≤◌, true, IfOk, length, sum_by};
 ghost use Rattle.std.specs.List.{All, find};
 ghost use Rattle.std.specs.Option.{option_map};
 ghost use Rattle.std.specs.Result.{result_err};
-ghost use Rattle.elf_image.specs.Elf.{header_count, table_offset, has_table, program_header, meets, loads, overlap_fault, segment_fault};
+ghost use Rattle.elf_image.specs.Elf.{header_count, table_offset, has_table, program_header, meets, loads};
+ghost use Rattle.elf_image.specs.Elf.{overlap_fault, segment_fault};
 
 use crate::fault::ImageFault;
 use crate::header::{ENTRY_SIZE, header_count, table_offset};

@@ -1,3 +1,5 @@
+//! Ranges of addresses, and the one that holds an address.
+
 ghost use Rattle.std.specs.Prelude.{◌≡◌, ◌≤◌, ◌<◌, true, false, IfSome, IfNone, length};
 ghost use Rattle.std.specs.List.{All, AllPairs, AllWithin, Contains};
 ghost use Rattle.elf_image.specs.Tables.{Climbs, range_holds};
@@ -13,16 +15,16 @@ pub struct Range {
 }
 
 /// The range that holds the address: the last of those that begin at or below it.
-pub fn locate(ranges: &[Range], addr: u64) -> Option<Range>
+pub fn locate(ranges: &[Range], addr: u64) -> Option<&Range>
     requires { AllPairs Climbs ranges.now }
-    ensures found { IfSome result (λ range. Contains ranges.now range × (range_holds addr range ≡ true)) }
+    ensures found { IfSome result (λ range. Contains ranges.now range.now × (range_holds addr range.now ≡ true)) }
     ensures none { IfNone result (All (λ range. range_holds addr range ≡ false) ranges.now) }
 {
     let after = first_after(ranges, addr);
     if after == 0 {
         return None;
     }
-    let range = ranges[after - 1];
+    let range = &ranges[after - 1];
     if addr - range.base < range.size {
         Some(range)
     } else {

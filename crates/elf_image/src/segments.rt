@@ -1,3 +1,5 @@
+//! The table of segments.
+
 ghost use Rattle.std.specs.Prelude.{◌≡◌, ◌<◌, ℕ, List, None, IfOk, length, map};
 ghost use Rattle.std.specs.List.{All, AllPairs, find};
 ghost use Rattle.elf_image.specs.Elf.{is_misplaced, loaded, overlap_fault};

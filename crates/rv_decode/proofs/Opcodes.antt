@@ -1,5 +1,6 @@
 -- The opcode tells the forms of instructions apart.
-use Rattle.std.proofs.Common.{◌≡◌, ℕ, ◌+◌, ◌*◌, ◌^◌, ◌<◌, ◌⊎◌, ℤ, Bool, Option, None, Some, IfNone, refl, arith, inl, inr}
+use Rattle.std.proofs.Common.{◌≡◌, ℕ, ◌+◌, ◌*◌, ◌^◌, ◌<◌, ◌⊎◌, ℤ, Bool, Option, None, Some, IfNone, refl, arith, inl}
+use Rattle.std.proofs.Common.{inr}
 use Rattle.rv_decode.specs.Formats.{part}
 use Rattle.rv_decode.specs.Operations.{imm_word, reg_row}
 use Rattle.rv_decode.specs.Listing.{Encodes}
@@ -13,7 +14,9 @@ use Rattle.rv_decode.specs.declared.operations.RegOp.TheVariants as reg_op
 use Rattle.rv_decode.specs.declared.operations.CsrOp.{CsrOp}
 use Rattle.rv_decode.specs.declared.operations.AmoOp.{AmoOp}
 use Rattle.rv_decode.specs.declared.instruction.Insn.{Insn}
-use Rattle.rv_decode.specs.declared.instruction.Insn.TheVariants.{Lui, Auipc, Jal, Jalr, Branch, Load, Store, AluImm, Alu, Fence, Ecall, Ebreak, Mret, Wfi, Csr, Lr, Sc, Amo}
+use Rattle.rv_decode.specs.declared.instruction.Insn.TheVariants.{Lui, Auipc, Jal, Jalr, Branch, Load, Store, AluImm}
+use Rattle.rv_decode.specs.declared.instruction.Insn.TheVariants.{Alu, Fence, Ecall, Ebreak, Mret, Wfi, Csr, Lr, Sc}
+use Rattle.rv_decode.specs.declared.instruction.Insn.TheVariants.{Amo}
 
 -- the opcode of an operation on an immediate
 imm_opcode : (op : ImmOp) (imm : ℤ) (rs1 rd : ℕ) → rd < 32

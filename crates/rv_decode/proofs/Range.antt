@@ -1,7 +1,8 @@
 -- Each word has 32 bits.
 use Rattle.std.proofs.Common.{◌↔◌, ℕ, ◌^◌, ◌<◌, ℤ, pos, negsuc, Bool, true, false, refl, arith}
 use Rattle.rv_decode.specs.Formats.{field, bit, IsAmount}
-use Rattle.rv_decode.specs.Operations.{imm_word, IsOperand, reg_row, branch_funct3, load_funct3, store_funct3, csr_funct3, amo_funct5, atomic_funct3}
+use Rattle.rv_decode.specs.Operations.{imm_word, IsOperand, reg_row, branch_funct3, load_funct3, store_funct3}
+use Rattle.rv_decode.specs.Operations.{csr_funct3, amo_funct5, atomic_funct3}
 use Rattle.rv_decode.specs.Listing.{Encodes, word_of, IsInsn}
 use Rattle.rv_decode.specs.declared.operations.BranchOp.{BranchOp}
 use Rattle.rv_decode.specs.declared.operations.BranchOp.TheVariants as branch
@@ -18,7 +19,9 @@ use Rattle.rv_decode.specs.declared.operations.CsrOp.TheVariants as csr
 use Rattle.rv_decode.specs.declared.operations.AmoOp.{AmoOp}
 use Rattle.rv_decode.specs.declared.operations.AmoOp.TheVariants as amo
 use Rattle.rv_decode.specs.declared.instruction.Insn.{Insn}
-use Rattle.rv_decode.specs.declared.instruction.Insn.TheVariants.{Lui, Auipc, Jal, Jalr, Branch, Load, Store, AluImm, Alu, Fence, Ecall, Ebreak, Mret, Wfi, Csr, Lr, Sc, Amo}
+use Rattle.rv_decode.specs.declared.instruction.Insn.TheVariants.{Lui, Auipc, Jal, Jalr, Branch, Load, Store, AluImm}
+use Rattle.rv_decode.specs.declared.instruction.Insn.TheVariants.{Alu, Fence, Ecall, Ebreak, Mret, Wfi, Csr, Lr, Sc}
+use Rattle.rv_decode.specs.declared.instruction.Insn.TheVariants.{Amo}
 
 branch_funct3-lt : (op : BranchOp) → branch_funct3 op < 8
 branch_funct3-lt branch.Beq = omega arith

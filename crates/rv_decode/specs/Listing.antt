@@ -1,9 +1,13 @@
 -- The instruction words (chapter 24; MRET and WFI: Volume II, Privileged Instruction Set Listings).
 use Rattle.std.specs.Prelude.{◌≡◌, ℕ, ◌^◌, ◌<◌, Bool, true, false}
-use Rattle.rv_decode.specs.Formats.{field, IsSigned, IsMultiple, r_type, i_type, s_type, b_type, u_type, j_type, a_type, fence_type}
-use Rattle.rv_decode.specs.Operations.{branch_funct3, load_funct3, store_funct3, imm_word, IsOperand, reg_row, csr_funct3, amo_funct5, atomic_funct3}
+use Rattle.rv_decode.specs.Formats.{field, IsSigned, IsMultiple, r_type, i_type, s_type, b_type, u_type, j_type, a_type}
+use Rattle.rv_decode.specs.Formats.{fence_type}
+use Rattle.rv_decode.specs.Operations.{branch_funct3, load_funct3, store_funct3, imm_word, IsOperand, reg_row}
+use Rattle.rv_decode.specs.Operations.{csr_funct3, amo_funct5, atomic_funct3}
 use Rattle.rv_decode.specs.declared.instruction.Insn.{Insn}
-use Rattle.rv_decode.specs.declared.instruction.Insn.TheVariants.{Lui, Auipc, Jal, Jalr, Branch, Load, Store, AluImm, Alu, Fence, Ecall, Ebreak, Mret, Wfi, Csr, Lr, Sc, Amo}
+use Rattle.rv_decode.specs.declared.instruction.Insn.TheVariants.{Lui, Auipc, Jal, Jalr, Branch, Load, Store, AluImm}
+use Rattle.rv_decode.specs.declared.instruction.Insn.TheVariants.{Alu, Fence, Ecall, Ebreak, Mret, Wfi, Csr, Lr, Sc}
+use Rattle.rv_decode.specs.declared.instruction.Insn.TheVariants.{Amo}
 
 -- the word of an instruction
 abbrev pub word_of : Insn → ℕ

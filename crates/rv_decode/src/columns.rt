@@ -2,7 +2,8 @@
 
 ghost use Rattle.rv_decode.specs.Decoding.{branch_at, load_at, store_at, csr_at, amo_at, reg_at, width_at};
 ghost use Rattle.std.specs.Prelude.{◌≡◌, ℕ, ◌<◌, ◌^◌, Bool, IfSome};
-ghost use Rattle.rv_decode.specs.Operations.{branch_funct3, load_funct3, store_funct3, csr_funct3, amo_funct5, atomic_funct3, reg_row, row};
+ghost use Rattle.rv_decode.specs.Operations.{branch_funct3, load_funct3, store_funct3, csr_funct3, amo_funct5};
+ghost use Rattle.rv_decode.specs.Operations.{atomic_funct3, reg_row, row};
 ghost use Rattle.rv_decode.specs.declared.operations.BranchOp.{BranchOp};
 ghost use Rattle.rv_decode.specs.declared.operations.LoadOp.{LoadOp};
 ghost use Rattle.rv_decode.specs.declared.operations.StoreOp.{StoreOp};

@@ -1,6 +1,7 @@
 //! Words of one opcode, on registers and immediates.
 
-ghost use Rattle.rv_decode.specs.Decoding.{rd_of, u_imm, j_imm, jalr_of, branch_of, load_of, store_of, alu_imm_of, alu_imm_word_of, alu_of};
+ghost use Rattle.rv_decode.specs.Decoding.{rd_of, u_imm, j_imm, jalr_of, branch_of, load_of, store_of, alu_imm_of};
+ghost use Rattle.rv_decode.specs.Decoding.{alu_imm_word_of, alu_of};
 ghost use Rattle.std.specs.Prelude.{◌≡◌, ℕ, ℤ, IfSome};
 ghost use Rattle.rv_decode.specs.Formats.{part};
 ghost use Rattle.rv_decode.specs.Listing.{Encodes};
@@ -9,7 +10,8 @@ ghost use Rattle.rv_decode.specs.declared.operations.LoadOp.{LoadOp};
 ghost use Rattle.rv_decode.specs.declared.operations.StoreOp.{StoreOp};
 ghost use Rattle.rv_decode.specs.declared.operations.RegOp.{RegOp};
 ghost use Rattle.rv_decode.specs.declared.operations.ImmOp.{ImmOp};
-ghost use Rattle.rv_decode.specs.declared.instruction.Insn.TheVariants.{Lui, Auipc, Jal, Jalr, Branch, Load, Store, AluImm, Alu};
+ghost use Rattle.rv_decode.specs.declared.instruction.Insn.TheVariants.{Lui, Auipc, Jal, Jalr, Branch, Load, Store};
+ghost use Rattle.rv_decode.specs.declared.instruction.Insn.TheVariants.{AluImm, Alu};
 
 use crate::columns::{branch_op, load_op, reg_op, reg_op_word, store_op};
 use crate::fields::{amount, funct3, funct6, funct7, rd, rs1, rs2};

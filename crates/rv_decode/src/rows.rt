@@ -1,7 +1,8 @@
 //! The columns of the listing, of each operation.
 
 ghost use Rattle.std.specs.Prelude.{◌≡◌, ◌<◌, ◌^◌};
-ghost use Rattle.rv_decode.specs.Operations.{branch_funct3, load_funct3, store_funct3, csr_funct3, amo_funct5, atomic_funct3, reg_row};
+ghost use Rattle.rv_decode.specs.Operations.{branch_funct3, load_funct3, store_funct3, csr_funct3, amo_funct5};
+ghost use Rattle.rv_decode.specs.Operations.{atomic_funct3, reg_row};
 
 use crate::operations::{AmoOp, BranchOp, CsrOp, LoadOp, RegOp, StoreOp};
 

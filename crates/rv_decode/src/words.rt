@@ -1,7 +1,8 @@
 //! Words from fields (sections 2.2 and 2.3).
 
 ghost use Rattle.std.specs.Prelude.{◌≡◌, ◌<◌, ◌^◌, ℤ};
-ghost use Rattle.rv_decode.specs.Formats.{field, IsSigned, IsMultiple, IsAmount, bit, r_type, i_type, s_type, b_type, u_type, j_type, shift_type, a_type, fence_type};
+ghost use Rattle.rv_decode.specs.Formats.{field, IsSigned, IsMultiple, IsAmount, bit, r_type, i_type, s_type, b_type};
+ghost use Rattle.rv_decode.specs.Formats.{u_type, j_type, shift_type, a_type, fence_type};
 
 use crate::signed::{field_12, field_13, field_21, field_32};
 

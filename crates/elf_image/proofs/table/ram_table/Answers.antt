@@ -16,5 +16,6 @@ returns-clause-same c =
     let moved : IsPermutation (map ram_range c.args.rams.now) c.sorted-ranges.result.items =
     rw (c.in_ok-ram_ranges.ensures {u = tt}) at c.sorted-ranges.ensures.permutation in
     IfOk-weaker c.widen.result _ _
-    (λ table wide x. rw wide (ram_table_same c.args.rams.now c.sorted-ranges.result.items moved c.sorted-ranges.ensures.sorted x))
+    (λ table wide x. rw wide (ram_table_same c.args.rams.now c.sorted-ranges.result.items moved
+    c.sorted-ranges.ensures.sorted x))
     c.widen.ensures

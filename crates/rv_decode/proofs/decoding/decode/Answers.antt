@@ -1,6 +1,7 @@
 use Rattle.std.proofs.Common.{◌≡◌, arith}
 use Rattle.rv_decode.specs.Formats.{part}
-use Rattle.rv_decode.proofs.Opcodes.{only_jalr, only_branch, only_load, only_store, only_alu, only_alu_word, only_fence, only_system, only_atomic, none_of}
+use Rattle.rv_decode.proofs.Opcodes.{only_jalr, only_branch, only_load, only_store, only_alu, only_alu_word, only_fence}
+use Rattle.rv_decode.proofs.Opcodes.{only_system, only_atomic, none_of}
 use Rattle.rv_decode.proofs.decoding.decode.Goals as goal
 
 -- the form's function finds the instruction, and the opcode rules out the other forms

@@ -1,5 +1,5 @@
 use Rattle.std.proofs.Common.{sym}
-use Rattle.elf_image.proofs.Found.{byte_of-segment, byte_of-rest}
+use Rattle.elf_image.proofs.Found.{byte_of-segment, byte_of-ram, byte_of-none}
 use Rattle.elf_image.proofs.image.Image.byte.Goals as goal
 
 pub returns-in-Some : goal.returns-in-Some
@@ -8,15 +8,24 @@ returns-in-Some c =
     let found = (c.in-Some.ensures {u = tt}).found in
     let among = rw c.deref.ensures.value at found.0 in
     let byte = byte_of-segment image.entry image.segments.items image.rams.items image.file.items
-    c.in-Some.range c.args.addr c.self.invariant.apart among found.1 in
+    c.in-Some.range.now c.args.addr c.self.invariant.apart among found.1 in
     rw (c.file_byte.ensures, c.deref-in-Some.ensures.value, ← c.self.view_is) (sym byte)
 
-pub returns-in-None : goal.returns-in-None
-returns-in-None c =
+pub returns-in_err-locate-in-None : goal.returns-in_err-locate-in-None
+returns-in_err-locate-in-None c =
     let image = c.self.inside in
     let outside = rw c.deref.ensures.value at (c.in-None.ensures {u = tt}).none in
-    let found = rw c.deref-in-None.ensures.value at c.locate-in-None.ensures.found in
-    let none = rw c.deref-in-None.ensures.value at c.locate-in-None.ensures.none in
-    rw (c.and.ensures, ← c.self.view_is)
-    (byte_of-rest image.entry image.segments.items image.rams.items image.file.items
-    c.locate-in-None.result c.args.addr outside found none)
+    let outside' = rw c.deref-in-None.ensures.value at (c.in_err-locate-in-None.ensures {u = tt}).none in
+    let none = byte_of-none image.entry image.segments.items image.rams.items image.file.items
+    c.args.addr outside outside' in
+    rw (c.from_residual.ensures, ← c.self.view_is) (sym none)
+
+pub returns-in_ok-locate-in-None : goal.returns-in_ok-locate-in-None
+returns-in_ok-locate-in-None c =
+    let image = c.self.inside in
+    let outside = rw c.deref.ensures.value at (c.in-None.ensures {u = tt}).none in
+    let found = (c.in_ok-locate-in-None.ensures {u = tt}).found in
+    let among = rw c.deref-in-None.ensures.value at found.0 in
+    let byte = byte_of-ram image.entry image.segments.items image.rams.items image.file.items
+    c.in_ok-locate-in-None.field-0.now c.args.addr outside among found.1 in
+    rw (← c.self.view_is) (sym byte)

@@ -16,7 +16,7 @@ returns-in-Some c =
     let found = (c.in-Some.ensures {u = tt}).found in
     let among = rw c.deref.ensures.value at found.0 in
     let held = held_in_segment image.entry image.segments.items image.rams.items image.file.items
-    c.in-Some.range c.args.addr c.rest_from.result c.self.invariant.apart among found.1 c.rest_from.ensures in
+    c.in-Some.range.now c.args.addr c.rest_from.result c.self.invariant.apart among found.1 c.rest_from.ensures in
     let held' = rw c.self.view_is at held in
     record { some = held'.some; each = held'.each; none = tt }
 
@@ -26,6 +26,7 @@ returns-in_ok-locate-in-None c =
     let found = (c.in_ok-locate-in-None.ensures {u = tt}).found in
     let among = rw c.deref-in-None.ensures.value at found.0 in
     let held = held_in_ram image.entry image.segments.items image.rams.items image.file.items
-    c.in_ok-locate-in-None.field-0 c.args.addr c.rest_from-in-None.result among found.1 c.rest_from-in-None.ensures in
+    c.in_ok-locate-in-None.field-0.now c.args.addr c.rest_from-in-None.result among found.1
+    c.rest_from-in-None.ensures in
     let held' = rw c.self.view_is at held in
     record { some = held'.some; each = held'.each; none = tt }
