@@ -14,7 +14,7 @@ pub use arithmetic::{mulh, mulhsu, mulhu, sext};
 pub use bytes::Bytes8;
 pub use division::{div, div32, divu, divu32, rem, rem32, remu, remu32};
 pub use extent::Extent;
-pub use names::{OpName, Origin, Place, Source1, places_are_ordered};
+pub use names::{OpName, Origin, Place, Position, Source1, places_are_ordered};
 pub use puts::put;
 
 #[cfg(test)]

@@ -1,7 +1,7 @@
 //! Places and names of memory operations.
 
 ghost use Rattle.std.specs.Prelude.{◌≡◌, ◌⊎◌, true, false};
-ghost use Rattle.tandem_base.specs.Places.{earlier};
+ghost use Rattle.tandem_base.specs.Places.{earlier, comes_before};
 ghost use Rattle.tandem_base.specs.declared.names.Place.{Place};
 
 /// When an operation was performed: the time and number of the message that performed it, and for
@@ -13,7 +13,7 @@ pub struct Place {
     pub time: u64,
     /// The number of the message, from 1.
     pub message: u64,
-    /// The number of the Insert, from 1, and 0 where none is meant.
+    /// The number of the Insert for a part of a drained line, and else the message's number again.
     pub insert: u64,
 }
 
@@ -32,6 +32,25 @@ pub fn places_are_ordered()
     ensures irreflexive { (a : Place) → earlier a a ≡ false }
     ensures transitive { (a b c : Place) → earlier a b ≡ true → earlier b c ≡ true → earlier a c ≡ true }
 {}
+
+/// Where a place stands among those of one stream: a place without its time, as tables keep it. Times
+/// never fall from message to message, so of two places the earlier is the one of the earlier position.
+#[derive(Clone, Copy, Debug, PartialEq, Eq, PartialOrd, Ord)]
+pub struct Position {
+    /// The number of the message, from 1.
+    pub message: u32,
+    /// The number of the Insert for a part of a drained line, and else the message's number again.
+    pub insert: u32,
+}
+
+impl Position {
+    /// Whether this position comes before the other: what `<` says of positions.
+    pub fn is_before(&self, other: &Position) -> bool
+        ensures { result ≡ comes_before self.now other.now }
+    {
+        *self < *other
+    }
+}
 
 /// The name of a memory operation: its hart, the tag of its instruction, and the offset of its
 /// lowest byte within the instruction's extent.
