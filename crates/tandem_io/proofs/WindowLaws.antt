@@ -1,5 +1,6 @@
 -- What is left of a window after its first bytes were given on, and when nothing is.
-use Rattle.std.proofs.Common.{◌≡◌, ℕ, ◌+◌, ◌≤◌, ◌<◌, min, List, [], ◌∷◌, ◌++◌, length, drop, take, ap, sym, ◌∙◌, refl, append_assoc, arith}
+use Rattle.std.proofs.Common.{◌≡◌, ℕ, ◌+◌, ◌≤◌, ◌<◌, min, List, [], ◌∷◌, ◌++◌, length, drop, take, ap, sym, ◌∙◌}
+use Rattle.std.proofs.Common.{refl, append_assoc, arith}
 use Rattle.std.proofs.Math.Seq.{drop-nil}
 use Rattle.std.specs.Prelude.{Option, Some, None}
 use Rattle.std.specs.List.{slice_range}
@@ -22,7 +23,8 @@ pub front-given : (old file : Option (List ℕ)) (window buf : List ℕ) (n : �
 front-given None file window buf n kept given = tt
 front-given (Some xs) None window buf n kept given = absurd kept
 front-given (Some xs) (Some ys) window buf n kept given =
-    sym kept ∙ ap (λ (zs : List ℕ). zs ++ ys) (sym (take-append-drop n window)) ∙ append_assoc (take n window) (drop n window) ys
+    sym kept ∙ ap (λ (zs : List ℕ). zs ++ ys) (sym (take-append-drop n window))
+    ∙ append_assoc (take n window) (drop n window) ys
     ∙ ap (λ (zs : List ℕ). zs ++ (drop n window ++ ys)) (sym given)
 
 -- where there is room and nothing is given, nothing is left
@@ -31,3 +33,10 @@ pub nothing-left : (file : Option (List ℕ)) (window : List ℕ) (room n : ℕ)
 nothing-left None window room n least some at_end none = tt
 nothing-left (Some ys) [] room n least some at_end none = rw (drop-nil n) (at_end refl)
 nothing-left (Some ys) (x ∷ window) room n least some at_end none = absurd (omega arith)
+
+-- the first n bytes of a window are the first n of all that is left
+pub front-taken : (file : Option (List ℕ)) (window : List ℕ) (n : ℕ)
+    → Consumes (prepend_known window file) (prepend_known (drop n window) file) (take n window)
+front-taken None window n = tt
+front-taken (Some xs) window n =
+    ap (λ (zs : List ℕ). zs ++ xs) (sym (take-append-drop n window)) ∙ append_assoc (take n window) (drop n window) xs

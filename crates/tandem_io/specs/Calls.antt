@@ -22,7 +22,10 @@ next_fails calls = list_any (λ call. call == one_more calls.made) calls.failing
 
 -- after one more call, with its fault where it failed
 abbrev pub after_call : CallRecord → Bool → CallRecord
-after_call calls fails = record calls { made = one_more calls.made; faults = if fails then one_more calls.faults else calls.faults }
+after_call calls fails = record calls {
+  made = one_more calls.made;
+  faults = if fails then one_more calls.faults else calls.faults;
+}
 
 -- with one more call that is to fail
 abbrev pub with_failing : CallRecord → ℕ → CallRecord

@@ -1,5 +1,6 @@
 -- How a slot of inputs in memory is kept: by the place of its content among the contents.
-use Rattle.std.specs.Prelude.{◌≡◌, ℕ, ◌<◌, ◌≤◌, Bool, List, [], length, take, drop, slice_index_or, Option, Some, None, ⊤}
+use Rattle.std.specs.Prelude.{◌≡◌, ℕ, ◌<◌, ◌≤◌, Bool, List, [], length, take, drop, slice_index_or, Option}
+use Rattle.std.specs.Prelude.{Some, None, ⊤}
 use Rattle.tandem_io.specs.declared.cursor.Cursor.{Cursor}
 use Rattle.tandem_io.specs.Inputs.{Named}
 use Rattle.tandem_io.specs.Store.{Reading}

@@ -1,49 +1,60 @@
--- Inputs that are files, as their callers see them: nothing is told of names, and of contents what a file tells.
-use Rattle.std.specs.Prelude.{◌≡◌, ℕ, Bool, false, List, [], Option, Some, None}
+-- Inputs that are files, as their callers see them: nothing is told of names, and of contents what
+-- a file tells.
+use Rattle.std.specs.Prelude.{◌≡◌, ℕ, Bool, true, false, List, [], Option, Some, None}
 use Rattle.std.specs.Io.KnownBytes.{prepend_known}
 use Rattle.tandem_io.specs.declared.window.Window.{Window}
-use Rattle.tandem_io.specs.Inputs.{SlotView, Aside}
+use Rattle.tandem_io.specs.Inputs.{SlotView, Slots}
 use Rattle.tandem_io.specs.Window.{unread_in}
 
--- the bytes that the slot still gives where they are known, whether its last read answered 0, the last answer of its
--- attach, and its count of faults
+-- an open file: the bytes that are left in it where they are known, and whether its last read failed
 pub record FileView : Type 0 where
   pub left : Option (List ℕ)
-  pub ended : Bool
-  pub attached : Option Bool
-  pub faults : ℕ
+  pub failed : Bool
+
+-- a slot: what is told of it, the bytes that it lends, and whether the last read of its file failed
+pub record FileSlotView : Type 0 where
+  pub told : SlotView
+  pub lent : List ℕ
+  pub failed : Bool
 
 -- both slots
-pub record FileViews : Type 0 where
-  pub image : FileView
-  pub stream : FileView
+pub record FileSlots : Type 0 where
+  pub image : FileSlotView
+  pub stream : FileSlotView
 
 -- the bytes that are left in a file where they are known, and none where no file is open
-abbrev pub left_in : {F : Type 0} → (F → Option (List ℕ)) → Option F → Option (List ℕ)
-left_in remaining None = Some []
-left_in remaining (Some file) = remaining file
+abbrev pub left_in : Option FileView → Option (List ℕ)
+left_in None = Some []
+left_in (Some file) = file.left
+
+-- the last read of the file failed
+abbrev pub failed_in : Option FileView → Bool
+failed_in None = false
+failed_in (Some file) = file.failed
 
 -- what a slot still gives: the rest of the window, and then what is left in the file
-abbrev pub left_of : {F : Type 0} → (F → Option (List ℕ)) → Option F → Window → Option (List ℕ)
-left_of remaining file window = prepend_known (unread_in window) (left_in remaining file)
+abbrev pub left_of : Option FileView → Window → Option (List ℕ)
+left_of file window = prepend_known (unread_in window) (left_in file)
 
 -- a slot before its first attach
-abbrev pub no_file : FileView
-no_file = record { left = Some []; ended = false; attached = None; faults = 0 }
+abbrev pub no_file : FileSlotView
+no_file = record {
+  told = record { left = Some []; ended = false; attached = None; faults = 0 };
+  lent = [];
+  failed = false;
+}
 
 -- both slots before their first attach
-abbrev pub no_files : FileViews
+abbrev pub no_files : FileSlots
 no_files = record { image = no_file; stream = no_file }
 
--- what is told of a slot
-abbrev pub told_of_file : FileView → SlotView
-told_of_file slot = record { left = slot.left; ended = slot.ended; attached = slot.attached; faults = slot.faults }
+-- what is told of both slots
+abbrev pub told_of_files : FileSlots → Slots
+told_of_files slots = record { image = slots.image.told; stream = slots.stream.told }
 
--- what is told beside the bytes of the stream
-abbrev pub aside_of_files : FileViews → Aside
-aside_of_files slots = record { names = None; image = told_of_file slots.image; attached = slots.stream.attached }
-
--- before the first attach no file is open, and nothing was read of one
-pub record IsUnread {F : Type 0} (attached : Option Bool) (file : Option F) (window : Window) : Type 0 where
+-- how the parts of a slot hang together: before the first attach no file is open, and nothing was
+-- read of one; after a read that failed nothing waits in the window
+pub record IsSound (attached : Option Bool) (file : Option FileView) (window : Window) : Type 0 where
   pub closed : attached ≡ None → file ≡ None
-  pub empty : attached ≡ None → unread_in window ≡ []
+  pub unread : attached ≡ None → unread_in window ≡ []
+  pub drained : failed_in file ≡ true → unread_in window ≡ []

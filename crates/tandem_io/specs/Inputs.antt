@@ -1,5 +1,6 @@
 -- What is told of inputs by name, and what attaching one of them does.
-use Rattle.std.specs.Prelude.{◌≡◌, ◌≤◌, ℕ, Bool, true, false, if◌then◌else◌, List, [], ◌∷◌, Option, Some, None, IfSome, is_some, Result, Ok, Err, IfOk, MatchResult, MatchBool, bytes_eq}
+use Rattle.std.specs.Prelude.{◌≡◌, ◌≤◌, ℕ, Bool, if◌then◌else◌, List, [], ◌∷◌, Option, Some, None}
+use Rattle.std.specs.Prelude.{IfSome, is_some, Result, Ok, Err, IfOk, MatchResult, MatchBool, bytes_eq}
 use Rattle.std.specs.Io.KnownBytes.{Keeps}
 use Rattle.tandem_io.specs.Causes.{HasCause}
 use Rattle.tandem_io.specs.Told.{Log, Logs}
@@ -24,29 +25,35 @@ pub record SlotView : Type 0 where
   pub attached : Option Bool
   pub faults : ℕ
 
--- what is told beside the bytes of a source, which its reads leave alone: the contents by name,
--- the slot of the image, and the last answer of attach for the stream
-pub record Aside : Type 0 where
-  pub names : Option (List Named)
-  pub image : SlotView
-  pub attached : Option Bool
-
--- a slot that was not attached yet, of inputs that tell what is left
-abbrev pub unattached_slot : SlotView
-unattached_slot = record { left = Some []; ended = false; attached = None; faults = 0 }
-
--- a source whose bytes are there from the start, with no inputs by name
-abbrev pub no_aside : Aside
-no_aside = record { names = None; image = unattached_slot; attached = Some true }
-
 -- what is told of both slots
 pub record Slots : Type 0 where
   pub image : SlotView
   pub stream : SlotView
 
--- the slots of inputs, of which the source is the stream
-abbrev pub slots_of : Option (List ℕ) → Bool → ℕ → Aside → Slots
-slots_of left ended faults aside = record { image = aside.image; stream = record { left = left; ended = ended; attached = aside.attached; faults = faults } }
+-- what is told of inputs beside the bytes of the stream: the contents by name, the slot of the
+-- image, and the last answer of attach for the stream
+pub record Beside : Type 0 where
+  pub names : Option (List Named)
+  pub image : SlotView
+  pub attached : Option Bool
+
+-- what is told beside the bytes of the stream
+abbrev pub beside_of : Option (List Named) → Slots → Beside
+beside_of names slots = record { names = names; image = slots.image; attached = slots.stream.attached }
+
+-- the slot of the stream tells what the source tells, which is open once attach has answered
+pub record IsStream (stream : SlotView) (left : Option (List ℕ)) (ended : Bool) (faults : ℕ) (is_open : Bool)
+    : Type 0 where
+  pub left_is : stream.left ≡ left
+  pub ended_is : stream.ended ≡ ended
+  pub faults_is : stream.faults ≡ faults
+  pub open_is : is_open ≡ is_some stream.attached
+
+-- the names, the slot of the image, and the last answer of attach for the stream are the same
+pub record IsBeside (names names' : Option (List Named)) (slots slots' : Slots) : Type 0 where
+  pub names_is : names ≡ names'
+  pub image_is : slots.image ≡ slots'.image
+  pub attached_is : slots.stream.attached ≡ slots'.stream.attached
 
 -- what is told of the slot that a call names
 abbrev pub view_of : Slot → Slots → SlotView
@@ -64,7 +71,8 @@ last_answer old (Ok found) = Some found
 last_answer old (Err _) = old
 
 -- what a call of attach did to the slot that it names, and when it may give each answer
-pub record Attaches {E : Type 0} (names : Option (List Named)) (name : List ℕ) (old new : SlotView) (r : Result Bool E) : Type 0 where
+pub record Attaches {E : Type 0} (names : Option (List Named)) (name : List ℕ) (old new : SlotView) (r : Result Bool E)
+    : Type 0 where
   -- where the names are told, it answers whether the name is among them
   pub answer : IfSome names (λ files. IfOk r (λ found. found ≡ is_some (content_of files name)))
   -- true makes the slot hold the content of that name, and any other answer leaves it what it held

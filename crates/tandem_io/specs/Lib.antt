@@ -8,3 +8,4 @@ pub mod Cursor
 pub mod MemInputs
 pub mod Window
 pub mod FileSlot
+pub mod WriterSink

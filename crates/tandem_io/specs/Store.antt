@@ -1,9 +1,10 @@
 -- Inputs in memory, as their callers see them: contents by name, and two slots that read them.
-use Rattle.std.specs.Prelude.{ℕ, min, Bool, true, false, nat_eq, List, [], ◌∷◌, ◌++◌, length, take, drop, map, Option, Some, None}
+use Rattle.std.specs.Prelude.{ℕ, min, Bool, true, false, nat_eq, ◌&&◌, List, [], ◌∷◌, ◌++◌, length, take, drop}
+use Rattle.std.specs.Prelude.{map, Option, Some, None}
 use Rattle.tandem_io.specs.declared.types.Slot.{Slot}
 use Rattle.tandem_io.specs.declared.types.Slot.TheVariants.{Image, Stream}
 use Rattle.tandem_io.specs.Told.{Log, taken}
-use Rattle.tandem_io.specs.Inputs.{Named, SlotView, Aside}
+use Rattle.tandem_io.specs.Inputs.{Named, SlotView, Slots}
 
 -- one slot: the bytes that it still holds, those that were taken of the content that is attached,
 -- whether the last read answered 0, and the last answer of attach
@@ -53,7 +54,23 @@ taken_by reading step room = min (min step room) (length reading.left)
 
 -- a slot after a read of n bytes
 abbrev pub after_read : Reading → ℕ → Reading
-after_read reading n = record reading { left = drop n reading.left; gone = reading.gone ++ take n reading.left; ended = nat_eq n 0 }
+after_read reading n = record reading {
+  left = drop n reading.left;
+  gone = reading.gone ++ take n reading.left;
+  ended = nat_eq n 0;
+}
+
+-- what a slot lends: as many bytes as it can, and at most step
+abbrev pub lent_of : Reading → ℕ → List ℕ
+lent_of reading step = take step reading.left
+
+-- a slot after the first n bytes that it lends were taken
+abbrev pub after_skip : Reading → ℕ → Reading
+after_skip reading n = record reading {
+  left = drop n reading.left;
+  gone = reading.gone ++ take n reading.left;
+  ended = reading.ended && nat_eq n 0;
+}
 
 -- a slot after a read that failed
 abbrev pub after_miss : Reading → Reading
@@ -65,8 +82,13 @@ log_of reading = Some (map taken reading.gone)
 
 -- what is told of one slot, with its count of faults
 abbrev pub told_of : Reading → ℕ → SlotView
-told_of reading faults = record { left = Some reading.left; ended = reading.ended; attached = reading.attached; faults = faults }
+told_of reading faults = record {
+  left = Some reading.left;
+  ended = reading.ended;
+  attached = reading.attached;
+  faults = faults;
+}
 
--- what is told beside the bytes of the stream, with the image's count of faults
-abbrev pub aside_of : Held → ℕ → Aside
-aside_of held faults = record { names = Some held.names; image = told_of held.image faults; attached = held.stream.attached }
+-- what is told of both slots, with the image's count of faults and the stream's
+abbrev pub slots_of : Held → ℕ → ℕ → Slots
+slots_of held image stream = record { image = told_of held.image image; stream = told_of held.stream stream }

@@ -1,5 +1,6 @@
 -- The list of single bytes that were taken from a source or given to it, where it is told.
-use Rattle.std.specs.Prelude.{◌≡◌, ℕ, true, false, List, [], ◌++◌, map, take, ⊤, Option, Some, None, Result, MatchResult}
+use Rattle.std.specs.Prelude.{◌≡◌, ℕ, true, false, List, [], ◌++◌, map, take, ⊤, Option, Some, None, Result}
+use Rattle.std.specs.Prelude.{MatchResult}
 use Rattle.tandem_io.specs.declared.types.Logged.{Logged}
 
 -- what is told of the bytes that passed, in their order, or None where nothing is
@@ -13,6 +14,11 @@ taken byte = record { given = false; byte = byte }
 -- the entry of a byte that was given
 abbrev pub given : ℕ → Logged
 given byte = record { given = true; byte = byte }
+
+-- known bytes begin with these
+abbrev pub BeginsWith : Option (List ℕ) → List ℕ → Type 0
+BeginsWith None front = ⊤
+BeginsWith (Some bytes) front = (rest : List ℕ) × (bytes ≡ front ++ rest)
 
 -- a told log grew by these entries
 abbrev pub Logs : Log → Log → List Logged → Type 0

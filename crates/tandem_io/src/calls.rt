@@ -1,3 +1,5 @@
+//! What the forms in memory keep of their calls.
+
 ghost use Rattle.std.specs.Prelude.{◌≡◌, ◌≤◌, IsTrue, OnOk, OnErr};
 ghost use Rattle.tandem_io.specs.Causes.{Rose};
 

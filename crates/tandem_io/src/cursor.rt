@@ -1,7 +1,10 @@
-ghost use Rattle.std.specs.Prelude.{◌≡◌, ◌<◌, ◌≤◌, [], length, take, IfOk, IfSome, IfNone, is_some, Some, None, bytes_eq};
+//! Where a slot reads among the contents in memory.
+
+ghost use Rattle.std.specs.Prelude.{◌≡◌, ◌<◌, ◌≤◌, [], length, take, IfOk, IfSome, IfNone, is_some, Some, None};
+ghost use Rattle.std.specs.Prelude.{bytes_eq};
 ghost use Rattle.tandem_io.specs.Inputs.{content_of};
 ghost use Rattle.tandem_io.specs.Cursor.{content_at, IsPlace, IsWithin, reading_at};
-ghost use Rattle.tandem_io.specs.Store.{taken_by, after_attach, after_read};
+ghost use Rattle.tandem_io.specs.Store.{taken_by, after_attach, after_read, lent_of, after_skip};
 
 use std::alloc::{AllocError, Global};
 use std::marker::Model;
@@ -98,7 +101,8 @@ pub(super) fn attach_at(files: &[NamedBytes], cursor: &mut Cursor, name: &str) -
     requires { IsWithin files.now cursor.old }
     ensures within { IsWithin files.now cursor.new }
     ensures answer { result ≡ is_some (content_of files.now name.now) }
-    ensures after { reading_at files.now cursor.new ≡ after_attach (reading_at files.now cursor.old) (content_of files.now name.now) }
+    ensures after { reading_at files.now cursor.new ≡
+        after_attach (reading_at files.now cursor.old) (content_of files.now name.now) }
 {
     match find(files, name) {
         Some(place) => {
@@ -137,4 +141,27 @@ pub(super) fn read_at(
     cursor.at += n;
     cursor.ended = n == 0;
     n
+}
+
+/// The next bytes at the cursor, as many as it can and at most `step`.
+pub(super) fn ready_at<'a>(files: &'a [NamedBytes], cursor: &Cursor, step: usize) -> &'a [u8]
+    requires { IsWithin files.now cursor.now }
+    ensures lent { result.now ≡ lent_of (reading_at files.now cursor.now) step }
+    ensures empty { cursor.now.attached ≡ None → result.now ≡ [] }
+{
+    let bytes = bytes_at(files, cursor.file);
+    let n = step.min(bytes.len() - cursor.at);
+    &bytes[cursor.at..cursor.at + n]
+}
+
+/// Moves the cursor on by `n` bytes, which are there.
+pub(super) fn skip_at(files: &[NamedBytes], cursor: &mut Cursor, n: usize)
+    requires within { IsWithin files.now cursor.old }
+    requires there { n ≤ length (reading_at files.now cursor.old).left }
+    ensures within { IsWithin files.now cursor.new }
+    ensures after { reading_at files.now cursor.new ≡ after_skip (reading_at files.now cursor.old) n }
+{
+    prove!(n <= bytes_at(files, cursor.file).len() - cursor.at);
+    cursor.at += n;
+    cursor.ended &= n == 0;
 }

@@ -1,3 +1,5 @@
+//! Inputs that are files.
+
 ghost use Rattle.std.specs.Prelude.{◌≡◌, None};
 
 use super::file_slot::FileSlot;
@@ -21,9 +23,9 @@ pub struct FileInputs<'a, R: Files> {
 }
 
 impl<'a, R: Files> Model for FileInputs<'a, R> {
-    ghost use Rattle.tandem_io.specs.FileSlot.{FileViews};
+    ghost use Rattle.tandem_io.specs.FileSlot.{FileSlots};
 
-    ghost Value = { FileViews };
+    ghost Value = { FileSlots };
 
     ghost view = { λ f. record { image = f.image; stream = f.stream } };
 }
@@ -44,24 +46,49 @@ impl<'a, R: Files> FileInputs<'a, R> {
 }
 
 impl<R: Files> Source for FileInputs<'_, R> {
-    ghost use Rattle.tandem_io.specs.FileSlot.{aside_of_files};
+    ghost use Rattle.std.specs.Prelude.{is_some};
+    ghost use Rattle.tandem_io.specs.Inputs.{Beside, beside_of};
+    ghost use Rattle.tandem_io.specs.FileSlot.{told_of_files};
 
-    ghost left = { λ f. f.stream.left };
+    ghost left = { λ f. f.stream.told.left };
 
     ghost log = { λ _. None };
 
-    ghost ended = { λ f. f.stream.ended };
+    ghost ended = { λ f. f.stream.told.ended };
 
-    ghost faults = { λ f. f.stream.faults };
+    ghost faults = { λ f. f.stream.told.faults };
 
-    ghost aside = { aside_of_files };
+    ghost is_open = { λ f. is_some f.stream.told.attached };
+
+    ghost lent = { λ f. f.stream.lent };
+
+    ghost Aside = { Beside };
+
+    ghost aside = { λ f. beside_of None (told_of_files f) };
 
     fn read(&mut self, buf: &mut [u8]) -> Result<usize, Failed> {
         self.stream.read(buf)
     }
+
+    /// Lends what was read of the file and is not yet given on.
+    fn ready(&self) -> &[u8] {
+        self.stream.ready()
+    }
+
+    fn skip(&mut self, n: usize) {
+        self.stream.skip(n);
+    }
 }
 
 impl<R: Files> Inputs for FileInputs<'_, R> {
+    ghost use Rattle.std.specs.Prelude.{refl};
+    ghost use Rattle.std.proofs.Common.{rules};
+    ghost use Rattle.tandem_io.specs.FileSlot.{told_of_files};
+
+    ghost names = { λ _. None };
+
+    ghost slots = { told_of_files };
+
     fn attach(&mut self, slot: Slot, name: &str) -> Result<bool, Failed> {
         let opened = fs::open(self.rt, name);
         match slot {
@@ -73,4 +100,8 @@ impl<R: Files> Inputs for FileInputs<'_, R> {
     fn read_image(&mut self, buf: &mut [u8]) -> Result<usize, Failed> {
         self.image.read(buf)
     }
+
+    ghost is_stream = { λ s. record { left_is = refl; ended_is = refl; faults_is = refl; open_is = refl } };
+
+    ghost is_beside = { λ s t same. Prim.search rules };
 }

@@ -1,12 +1,17 @@
-ghost use Rattle.std.specs.Prelude.{◌≡◌, ◌<◌, ◌≤◌, ◌↔◌, [], true, false, length, OnOk, OnErr, IfOk, IsOk, IsErrAnd, Ok, None};
+//! One slot of the inputs that are files.
+
+ghost use Rattle.std.specs.Prelude.{◌≡◌, ◌<◌, ◌≤◌, ◌↔◌, [], ◌&&◌, true, false, length, drop, take, nat_eq};
+ghost use Rattle.std.specs.Prelude.{OnOk, OnErr, IfOk, IsOk, IsErrAnd, is_err, Ok, None};
 ghost use Rattle.std.specs.IoError.{error_kind};
 ghost use Rattle.std.specs.Io.{ReadsAtMost};
-ghost use Rattle.std.specs.Io.KnownBytes.{IsAtEnd, Keeps, ReadConsumes};
+ghost use Rattle.std.specs.Io.KnownBytes.{Consumes, IsAtEnd, Keeps, ReadConsumes};
 ghost use Rattle.tandem_io.specs.Causes.{HasCause, answered_end};
-ghost use Rattle.tandem_io.specs.FileSlot.{left_of, left_in};
+ghost use Rattle.tandem_io.specs.FileSlot.{left_of, left_in, failed_in};
 ghost use Rattle.tandem_io.specs.Inputs.{last_answer};
+ghost use Rattle.tandem_io.specs.Told.{BeginsWith};
 ghost use Rattle.tandem_io.specs.Window.{unread_in};
 
+use super::reader::Reader;
 use super::types::Failed;
 use super::window::Window;
 use std::io::{self, ErrorKind, Read};
@@ -16,7 +21,7 @@ use std::marker::Model;
 /// on, and what its calls answered.
 #[derive(Drop)]
 pub(super) struct FileSlot<F: Read> {
-    file: Option<F>,
+    file: Option<Reader<F>>,
     window: Window,
     ended: bool,
     attached: Option<bool>,
@@ -24,13 +29,18 @@ pub(super) struct FileSlot<F: Read> {
 }
 
 impl<F: Read> Model for FileSlot<F> {
-    ghost use Rattle.tandem_io.specs.FileSlot.{FileView, IsUnread, left_of};
+    ghost use Rattle.tandem_io.specs.FileSlot.{FileSlotView, IsSound, left_of, failed_in};
+    ghost use Rattle.tandem_io.specs.Window.{unread_in};
 
-    ghost Value = { FileView };
+    ghost Value = { FileSlotView };
 
-    ghost view = { λ s. record { left = left_of F.remaining s.file s.window; ended = s.ended; attached = s.attached; faults = s.faults } };
+    ghost view = { λ s. record {
+      told = record { left = left_of s.file s.window; ended = s.ended; attached = s.attached; faults = s.faults };
+      lent = unread_in s.window;
+      failed = failed_in s.file;
+    } };
 
-    ghost invariant = { λ s. IsUnread s.attached s.file s.window };
+    ghost invariant = { λ s. IsSound s.attached s.file s.window };
 }
 
 impl<F: Read + Drop> FileSlot<F> {
@@ -53,16 +63,16 @@ impl<F: Read + Drop> FileSlot<F> {
     pub(super) fn attach(&mut self, opened: io::Result<F>) -> Result<bool, Failed>
         ensures found { result ≡ Ok true ↔ IsOk opened }
         ensures missing { result ≡ Ok false ↔ IsErrAnd opened (λ e. error_kind e ≡ ErrorKind.NotFound) }
-        ensures left { IfOk opened (λ file. self.new.left ≡ F.remaining file) }
-        ensures kept { OnErr opened (self.new.left ≡ self.old.left) }
-        ensures ended { self.new.ended ≡ self.old.ended }
-        ensures attached { self.new.attached ≡ last_answer self.old.attached result }
-        ensures cause { HasCause self.old.faults self.new.faults result }
-        ensures count { self.old.faults ≤ self.new.faults }
+        ensures left { IfOk opened (λ file. self.new.told.left ≡ F.remaining file) }
+        ensures kept { OnErr opened (self.new.told.left ≡ self.old.told.left) }
+        ensures ended { self.new.told.ended ≡ self.old.told.ended }
+        ensures attached { self.new.told.attached ≡ last_answer self.old.told.attached result }
+        ensures cause { HasCause self.old.told.faults self.new.told.faults result }
+        ensures count { self.old.told.faults ≤ self.new.told.faults }
     {
         match opened {
             Ok(file) => {
-                self.file = Some(file);
+                self.file = Some(Reader::new(file));
                 self.window.clear();
                 self.attached = Some(true);
                 Ok(true)
@@ -78,16 +88,18 @@ impl<F: Read + Drop> FileSlot<F> {
         }
     }
 
-    /// Gives on what was read of the file, and reads on in it where nothing is left of that.
+    /// Gives on what was read of the file, and reads on in it where nothing is left of that. It
+    /// fails exactly where that fails.
     pub(super) fn read(&mut self, buf: &mut [u8]) -> Result<usize, Failed>
         requires { 0 < length buf.old }
         ensures bound { ReadsAtMost result buf.new }
-        ensures bytes { ReadConsumes self.old.left self.new.left result buf.new }
-        ensures empty { self.old.attached ≡ None → IfOk result (λ n. n ≡ 0) }
-        ensures ended { self.new.ended ≡ answered_end result }
-        ensures attached { self.new.attached ≡ self.old.attached }
-        ensures cause { HasCause self.old.faults self.new.faults result }
-        ensures count { self.old.faults ≤ self.new.faults }
+        ensures bytes { ReadConsumes self.old.told.left self.new.told.left result buf.new }
+        ensures empty { self.old.told.attached ≡ None → IfOk result (λ n. n ≡ 0) }
+        ensures ended { self.new.told.ended ≡ answered_end result }
+        ensures attached { self.new.told.attached ≡ self.old.told.attached }
+        ensures cause { HasCause self.old.told.faults self.new.told.faults result }
+        ensures count { self.old.told.faults ≤ self.new.told.faults }
+        ensures failed { is_err result ≡ self.new.failed }
     {
         match read_on(&mut self.file, &mut self.window) {
             Ok(()) => {
@@ -102,14 +114,38 @@ impl<F: Read + Drop> FileSlot<F> {
             }
         }
     }
+
+    /// What was read of the file and is not yet given on.
+    pub(super) fn ready(&self) -> &[u8]
+        ensures lent { result.now ≡ self.now.lent }
+        ensures front { BeginsWith self.now.told.left result.now }
+        ensures empty { self.now.told.attached ≡ None → result.now ≡ [] }
+    {
+        self.window.unread()
+    }
+
+    /// Gives on the first `n` of those bytes.
+    pub(super) fn skip(&mut self, n: usize)
+        requires { n ≤ length self.old.lent }
+        ensures bytes { Consumes self.old.told.left self.new.told.left (take n self.old.lent) }
+        ensures ended { self.new.told.ended ≡ (self.old.told.ended && nat_eq n 0) }
+        ensures attached { self.new.told.attached ≡ self.old.told.attached }
+        ensures faults { self.new.told.faults ≡ self.old.told.faults }
+    {
+        self.window.skip(n);
+        self.ended &= n == 0;
+    }
 }
 
 /// Reads the next piece of the file, if one is open and nothing is left of the last.
-fn read_on<F: Read>(file: &mut Option<F>, window: &mut Window) -> io::Result<()>
-    ensures left { Keeps (left_of F.remaining file.old window.old) (left_of F.remaining file.new window.new) }
-    ensures end { OnOk result (unread_in window.new ≡ [] → IsAtEnd (left_in F.remaining file.new)) }
+fn read_on<F: Read + Drop>(file: &mut Option<Reader<F>>, window: &mut Window) -> io::Result<()>
+    requires { failed_in file.old ≡ true → unread_in window.old ≡ [] }
+    ensures left { Keeps (left_of file.old window.old) (left_of file.new window.new) }
+    ensures end { OnOk result (unread_in window.new ≡ [] → IsAtEnd (left_in file.new)) }
     ensures file { file.old ≡ None → file.new ≡ None }
     ensures window { file.old ≡ None → unread_in window.new ≡ unread_in window.old }
+    ensures failed { failed_in file.new ≡ is_err result }
+    ensures drained { OnErr result (unread_in window.new ≡ []) }
 {
     match file {
         Some(file) if window.is_empty() => window.fill(file),

@@ -8,6 +8,7 @@ mod file_inputs;
 mod file_slot;
 mod mem_inputs;
 mod mem_sink;
+mod reader;
 mod sink;
 mod source;
 mod stdout;
@@ -15,6 +16,7 @@ mod store;
 mod sure;
 mod types;
 mod window;
+mod writer_sink;
 
 pub use file_inputs::FileInputs;
 pub use mem_inputs::MemInputs;

@@ -1,4 +1,7 @@
-ghost use Rattle.std.specs.Prelude.{◌≡◌, ◌<◌, ◌≤◌, [], length, take, IfOk, OnOk, OnErr, is_err, IsTrue, if◌then◌else◌, is_some, Some, None};
+//! Inputs in memory, of which calls can be made to fail.
+
+ghost use Rattle.std.specs.Prelude.{◌≡◌, ◌<◌, ◌≤◌, [], length, take, IfOk, OnOk, OnErr, is_err, IsTrue};
+ghost use Rattle.std.specs.Prelude.{if◌then◌else◌, is_some, Some, None};
 ghost use Rattle.std.specs.Io.{ReadsAtMost};
 ghost use Rattle.std.specs.Io.KnownBytes.{ReadConsumes};
 ghost use Rattle.tandem_io.specs.Causes.{Rose, HasCause, answered_end};
@@ -82,7 +85,8 @@ impl MemInputs {
 impl Source for MemInputs {
     ghost use Rattle.tandem_io.specs.Told.{ReadLogs};
     ghost use Rattle.tandem_io.specs.Calls.{next_fails, after_call};
-    ghost use Rattle.tandem_io.specs.Store.{log_of, aside_of, taken_by};
+    ghost use Rattle.tandem_io.specs.Inputs.{Beside, beside_of};
+    ghost use Rattle.tandem_io.specs.Store.{log_of, slots_of, taken_by};
     ghost use Rattle.tandem_io.specs.MemInputs.{after_answer};
 
     ghost left = { λ m. Some m.held.stream.left };
@@ -93,7 +97,13 @@ impl Source for MemInputs {
 
     ghost faults = { λ m. m.stream.faults };
 
-    ghost aside = { λ m. aside_of m.held m.image.faults };
+    ghost is_open = { λ m. is_some m.held.stream.attached };
+
+    ghost lent = { λ _. [] };
+
+    ghost Aside = { Beside };
+
+    ghost aside = { λ m. beside_of (Some m.held.names) (slots_of m.held m.image.faults m.stream.faults) };
 
     /// Takes as many bytes as it can, and at most `step`.
     fn read(&mut self, buf: &mut [u8]) -> Result<usize, Failed>
@@ -120,14 +130,27 @@ impl Source for MemInputs {
         }
         Ok(self.store.read(Slot::Stream, buf))
     }
+
+    /// Lends nothing, so that each byte is taken by a call that can be made to fail.
+    fn ready(&self) -> &[u8] {
+        &[]
+    }
+
+    fn skip(&mut self, _n: usize) {}
 }
 
 impl Inputs for MemInputs {
     ghost use Rattle.tandem_io.specs.Told.{Logs};
+    ghost use Rattle.std.specs.Prelude.{refl};
+    ghost use Rattle.std.proofs.Common.{rules};
     ghost use Rattle.tandem_io.specs.Inputs.{content_of, view_of, Attaches};
     ghost use Rattle.tandem_io.specs.Calls.{next_fails, after_call};
-    ghost use Rattle.tandem_io.specs.Store.{log_of, told_of, taken_by, reading_of, with_reading, after_attach};
+    ghost use Rattle.tandem_io.specs.Store.{log_of, slots_of, taken_by, reading_of, with_reading, after_attach};
     ghost use Rattle.tandem_io.specs.MemInputs.{after_answer, calls_of, with_calls};
+
+    ghost names = { λ m. Some m.held.names };
+
+    ghost slots = { λ m. slots_of m.held m.image.faults m.stream.faults };
 
     fn attach(&mut self, slot: Slot, name: &str) -> Result<bool, Failed>
         ensures cause { HasCause (calls_of slot self.old).faults (calls_of slot self.new).faults result }
@@ -169,4 +192,8 @@ impl Inputs for MemInputs {
         }
         Ok(self.store.read(Slot::Image, buf))
     }
+
+    ghost is_stream = { λ s. record { left_is = refl; ended_is = refl; faults_is = refl; open_is = refl } };
+
+    ghost is_beside = { λ s t same. Prim.search rules };
 }

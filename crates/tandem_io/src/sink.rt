@@ -1,3 +1,5 @@
+//! What takes bytes, and how a text is written whole.
+
 ghost use Rattle.std.specs.Prelude.{◌≡◌, ℕ, ◌<◌, ◌≤◌, List, take, length, Option, IfOk, OnOk, IfErr};
 ghost use Rattle.std.specs.Io.KnownBytes.{Appends, WriteAppends};
 ghost use Rattle.tandem_io.specs.Causes.{HasCause};

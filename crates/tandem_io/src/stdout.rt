@@ -1,47 +1,45 @@
-ghost use Rattle.std.specs.Prelude.{◌≡◌, None, ℕ};
+//! The standard output as a sink.
+
+ghost use Rattle.std.specs.Prelude.{◌≡◌, None};
 
 use super::sink::Sink;
 use super::types::Failed;
-use std::io::{self, Write};
+use super::writer_sink::WriterSink;
+use std::io::{self, Printer};
 use std::marker::Model;
 
-/// The standard output of the runtime as a sink. It tells nothing of what was written. Each error
-/// of a write is a fault, and so is a write that took no byte.
+/// The standard output of the runtime as a sink, of which nothing is told. Each error of a write
+/// is a fault, and so is a write that took no byte.
 #[derive(Drop)]
-pub struct StdoutSink<'a, P> {
-    rt: &'a P,
-    faults: u64,
+pub struct StdoutSink<'a, P: Print> {
+    out: WriterSink<Printer<'a, P>>,
 }
 
-impl<'a, P> Model for StdoutSink<'a, P> {
-    ghost use Rattle.std.specs.Prelude.{ℕ};
+impl<'a, P: Print> Model for StdoutSink<'a, P> {
+    ghost use Rattle.tandem_io.specs.WriterSink.{WrittenView};
 
-    ghost Value = { ℕ };
+    ghost Value = { WrittenView };
 
-    ghost view = { λ s. s.faults };
+    ghost view = { λ s. s.out };
 }
 
 impl<'a, P: Print> StdoutSink<'a, P> {
     /// A sink without a fault yet.
     pub fn new(rt: &'a P) -> StdoutSink<'a, P>
-        ensures { result ≡ 0 }
+        ensures { result ≡ record { written = None; faults = 0 } }
     {
-        StdoutSink { rt, faults: 0 }
+        StdoutSink {
+            out: WriterSink::new(io::writer(rt)),
+        }
     }
 }
 
 impl<P: Print> Sink for StdoutSink<'_, P> {
-    ghost written = { λ _. None };
+    ghost written = { λ s. s.written };
 
-    ghost faults = { λ s. s };
+    ghost faults = { λ s. s.faults };
 
     fn write(&mut self, buf: &[u8]) -> Result<usize, Failed> {
-        match io::writer(self.rt).write(buf) {
-            Ok(n) if n > 0 => Ok(n),
-            _ => {
-                self.faults = self.faults.saturating_add(1);
-                Err(Failed)
-            }
-        }
+        self.out.write(buf)
     }
 }

@@ -1,6 +1,9 @@
-ghost use Rattle.std.specs.Prelude.{◌≡◌, ◌<◌, ◌≤◌, length, take, OnOk, OnErr, IfSome, IfNone, is_some, Some, None, bytes_eq};
+//! Contents by name in memory, and two slots that read them.
 
-use super::cursor::{Cursor, NamedBytes, UNREAD, attach_at, read_at};
+ghost use Rattle.std.specs.Prelude.{◌≡◌, ◌<◌, ◌≤◌, length, take, OnOk, OnErr, IfSome, IfNone, is_some, Some};
+ghost use Rattle.std.specs.Prelude.{None, bytes_eq};
+
+use super::cursor::{Cursor, NamedBytes, UNREAD, attach_at, read_at, ready_at, skip_at};
 use super::types::Slot;
 use std::alloc::{AllocError, Global};
 use std::marker::Model;
@@ -35,7 +38,8 @@ impl Model for Store {
 impl Store {
     ghost use Rattle.std.specs.Prelude.{[]};
     ghost use Rattle.tandem_io.specs.Inputs.{content_of};
-    ghost use Rattle.tandem_io.specs.Store.{nothing_held, with_content, reading_of, with_reading, after_attach, after_read, after_miss, taken_by};
+    ghost use Rattle.tandem_io.specs.Store.{nothing_held, with_content, reading_of, with_reading, after_attach};
+    ghost use Rattle.tandem_io.specs.Store.{after_read, after_miss, taken_by, lent_of, after_skip};
 
     /// No content yet. A read takes at most `step` bytes.
     pub(super) fn new(alloc: Global, step: usize) -> Store
@@ -86,6 +90,22 @@ impl Store {
             Slot::Image => read_at(&self.files, &mut self.image, self.step, buf),
             Slot::Stream => read_at(&self.files, &mut self.stream, self.step, buf),
         }
+    }
+
+    /// The next bytes of the slot `Stream`, as many as it can and at most `step`.
+    pub(super) fn ready(&self) -> &[u8]
+        ensures lent { result.now ≡ lent_of self.now.stream self.now.step }
+        ensures empty { self.now.stream.attached ≡ None → result.now ≡ [] }
+    {
+        ready_at(&self.files, &self.stream, self.step)
+    }
+
+    /// Takes the first `n` of those bytes.
+    pub(super) fn skip(&mut self, n: usize)
+        requires { n ≤ length (lent_of self.old.stream self.old.step) }
+        ensures { self.new ≡ record self.old { stream = after_skip self.old.stream n } }
+    {
+        skip_at(&self.files, &mut self.stream, n);
     }
 
     /// Notes a read of the slot that failed.

@@ -1,3 +1,5 @@
+//! Inputs and a sink that never fail.
+
 ghost use Rattle.std.specs.Prelude.{◌≡◌, ◌<◌, ◌≤◌, [], OnOk, OnErr, IfOk, IsOk, is_some, None, Some, Ok, length};
 ghost use Rattle.std.specs.Io.{ReadsAtMost};
 ghost use Rattle.std.specs.Io.KnownBytes.{ReadConsumes};
@@ -49,7 +51,8 @@ impl SureInputs {
 
 impl Source for SureInputs {
     ghost use Rattle.tandem_io.specs.Told.{ReadLogs};
-    ghost use Rattle.tandem_io.specs.Store.{log_of, aside_of, taken_by, after_read};
+    ghost use Rattle.tandem_io.specs.Inputs.{Beside, beside_of};
+    ghost use Rattle.tandem_io.specs.Store.{log_of, slots_of, taken_by, after_read, lent_of};
 
     ghost left = { λ s. Some s.stream.left };
 
@@ -59,7 +62,13 @@ impl Source for SureInputs {
 
     ghost faults = { λ _. 0 };
 
-    ghost aside = { λ s. aside_of s 0 };
+    ghost is_open = { λ s. is_some s.stream.attached };
+
+    ghost lent = { λ s. lent_of s.stream s.step };
+
+    ghost Aside = { Beside };
+
+    ghost aside = { λ s. beside_of (Some s.names) (slots_of s 0 0) };
 
     /// Takes as many bytes as it can, and at most `step`.
     fn read(&mut self, buf: &mut [u8]) -> Result<usize, Failed>
@@ -76,11 +85,26 @@ impl Source for SureInputs {
     {
         Ok(self.store.read(Slot::Stream, buf))
     }
+
+    /// Lends as many bytes as it can, and at most `step`.
+    fn ready(&self) -> &[u8] {
+        self.store.ready()
+    }
+
+    fn skip(&mut self, n: usize) {
+        self.store.skip(n);
+    }
 }
 
 impl Inputs for SureInputs {
+    ghost use Rattle.std.specs.Prelude.{refl};
+    ghost use Rattle.std.proofs.Common.{rules};
     ghost use Rattle.tandem_io.specs.Inputs.{content_of};
-    ghost use Rattle.tandem_io.specs.Store.{taken_by, reading_of, with_reading, after_attach, after_read};
+    ghost use Rattle.tandem_io.specs.Store.{slots_of, taken_by, reading_of, with_reading, after_attach, after_read};
+
+    ghost names = { λ s. Some s.names };
+
+    ghost slots = { λ s. slots_of s 0 0 };
 
     fn attach(&mut self, slot: Slot, name: &str) -> Result<bool, Failed>
         ensures found { result ≡ Ok (is_some (content_of self.old.names name.now)) }
@@ -104,6 +128,10 @@ impl Inputs for SureInputs {
     {
         Ok(self.store.read(Slot::Image, buf))
     }
+
+    ghost is_stream = { λ s. record { left_is = refl; ended_is = refl; faults_is = refl; open_is = refl } };
+
+    ghost is_beside = { λ s t same. Prim.search rules };
 }
 
 /// A sink that takes every piece whole, keeps nothing, and never fails.

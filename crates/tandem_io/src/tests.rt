@@ -1,3 +1,5 @@
+//! What no clause says: how the edge meets the runtime's files and output, and each call once.
+
 use super::file_slot::FileSlot;
 use super::*;
 use std::alloc::{AllocError, Global};
@@ -187,34 +189,72 @@ fn reads_real_files(rt: HostRuntime) -> Result<(), Fail> {
     Ok(())
 }
 
-/// An output that takes nothing.
-struct Full;
-
-impl Print for Full {
-    fn print<D: std::fmt::Display + Drop>(&self, _value: D) -> io::Result<()> {
-        Ok(())
+#[test]
+fn opens_the_name_that_it_is_given(rt: HostRuntime) -> Result<(), Fail> {
+    let alloc = rt.alloc();
+    let names = [
+        "name",
+        "Name",
+        "name.",
+        " name",
+        "name ",
+        "two words",
+        "na\u{ef}ve",
+        "./dotted",
+    ];
+    for name in names {
+        fs::write(&rt, name, name)?;
     }
-
-    fn println<D: std::fmt::Display + Drop>(&self, _value: D) -> io::Result<()> {
-        Ok(())
+    let mut ins = FileInputs::new(&rt);
+    for slot in [Slot::Image, Slot::Stream] {
+        for name in names {
+            assert_eq!(rt; ins.attach(slot, name), Ok(true), "{name}");
+            let all = read_on(alloc, &mut ins, slot)?;
+            assert_eq!(rt; all.as_slice(), name.as_bytes());
+        }
+        for name in ["NAME", "name..", "two  words", "naive", " ./dotted"] {
+            assert_eq!(rt; ins.attach(slot, name), Ok(false), "{name}");
+        }
+        assert_eq!(rt; ins.attach(slot, "name/"), Err(Failed), "no directory");
     }
-
-    fn write_all(&self, _bytes: &[u8]) -> io::Result<()> {
-        Ok(())
-    }
-
-    fn write_some(&self, _bytes: &[u8]) -> io::Result<usize> {
-        Ok(0)
-    }
+    Ok(())
 }
 
-/// An output that takes at most three bytes at a time, and counts them.
+/// Reads one byte, takes up to three of what is lent, and reads on: what is lent, and the rest.
+fn lends<I: Inputs>(alloc: Global, ins: &mut I) -> Result<(Vec<u8>, Vec<u8>), Fail> {
+    let _ = ins.attach(Slot::Stream, "digits");
+    let _ = ins.read(&mut [0; 1]);
+    let lent = Vec::from_slice(alloc, ins.ready())?;
+    let n = ins.ready().len().min(3);
+    ins.skip(n);
+    Ok((lent, read_on(alloc, ins, Slot::Stream)?))
+}
+
+#[test]
+fn lends_what_it_holds(rt: HostRuntime) -> Result<(), Fail> {
+    let alloc = rt.alloc();
+    fs::write(&rt, "digits", "0123456789")?;
+    let (lent, rest) = lends(alloc, &mut FileInputs::new(&rt))?;
+    assert_eq!(rt; lent.as_slice(), b"123456789".as_slice());
+    assert_eq!(rt; rest.as_slice(), b"456789".as_slice());
+    let (lent, rest) = lends(alloc, &mut surely_holding(alloc, 4)?)?;
+    assert_eq!(rt; lent.as_slice(), b"1234".as_slice());
+    assert_eq!(rt; rest.as_slice(), b"456789".as_slice());
+    let (lent, rest) = lends(alloc, &mut holding(alloc, 4)?)?;
+    assert_eq!(rt; lent.len(), 0);
+    assert_eq!(rt; rest.as_slice(), b"123456789".as_slice());
+    Ok(())
+}
+
+/// An output that takes at most so many bytes at a time, or none with an error, and counts them.
 #[derive(Drop)]
-struct Slow {
+struct Output {
+    most: usize,
+    fails: bool,
     taken: Cell<usize>,
 }
 
-impl Print for Slow {
+impl Print for Output {
     fn print<D: std::fmt::Display + Drop>(&self, _value: D) -> io::Result<()> {
         Ok(())
     }
@@ -228,26 +268,30 @@ impl Print for Slow {
     }
 
     fn write_some(&self, bytes: &[u8]) -> io::Result<usize> {
-        let n = bytes.len().min(3);
+        if self.fails {
+            return Err(io::Error::from(ErrorKind::StorageFull));
+        }
+        let n = bytes.len().min(self.most);
         self.taken.set(self.taken.get().saturating_add(n));
         Ok(n)
     }
 }
 
 #[test]
-fn writes_to_an_output_that_takes_little_at_a_time(rt: HostRuntime) {
-    let slow = Slow {
-        taken: Cell::new(0),
-    };
-    assert_eq!(rt; write_all(&mut StdoutSink::new(&slow), b"a line\n"), Ok(()));
-    assert_eq!(rt; slow.taken.get(), 7);
-}
-
-#[test]
-fn writes_to_the_output(rt: HostRuntime) {
+fn writes_to_an_output_in_pieces(rt: HostRuntime) {
+    for (most, fails, want, taken) in [
+        (3, false, Ok(()), 7),
+        (100, false, Ok(()), 7),
+        (0, false, Err(WriteFailed { put: 0 }), 0),
+        (3, true, Err(WriteFailed { put: 0 }), 0),
+    ] {
+        let out = Output {
+            most,
+            fails,
+            taken: Cell::new(0),
+        };
+        assert_eq!(rt; write_all(&mut StdoutSink::new(&out), b"a line\n"), want);
+        assert_eq!(rt; out.taken.get(), taken);
+    }
     assert_eq!(rt; write_all(&mut StdoutSink::new(&rt), b"a line\n"), Ok(()));
-    assert_eq!(rt;
-        write_all(&mut StdoutSink::new(&Full), b"x"),
-        Err(WriteFailed { put: 0 })
-    );
 }

@@ -1,3 +1,5 @@
+//! What calls of the outside speak of.
+
 /// The answer of a call of the outside that could not be done. The object's count of faults says
 /// why: it rose in that call, or it stands at its last value.
 #[derive(Clone, Copy, Debug, PartialEq, Eq)]

@@ -1,7 +1,11 @@
-ghost use Rattle.std.specs.Prelude.{◌≡◌, ◌+◌, ◌-◌, ◌<◌, ◌≤◌, [], ◌++◌, length, min, nat_eq, take, drop, IfOk, OnOk, OnErr};
+//! A piece of a file that was read and is given on little by little.
+
+ghost use Rattle.std.specs.Prelude.{◌≡◌, ◌+◌, ◌-◌, ◌<◌, ◌≤◌, [], ◌++◌, length, min, nat_eq, take, drop};
+ghost use Rattle.std.specs.Prelude.{IfOk, OnOk, OnErr, is_err};
 ghost use Rattle.std.specs.Io.{ReadsAtMost};
 ghost use Rattle.std.specs.Io.KnownBytes.{Consumes, IsAtEnd, Keeps};
 
+use super::reader::Reader;
 use std::io::{self, Read};
 
 /// How many bytes of a file are asked for at a time: 64 KiB.
@@ -48,16 +52,32 @@ impl Window {
 
     /// Reads the next piece in place of what was not given on. Where the read fails, the window is
     /// empty.
-    pub(super) fn fill<F: Read>(&mut self, file: &mut F) -> io::Result<()>
-        ensures ok { OnOk result (Consumes (F.remaining file.old) (F.remaining file.new) (unread_in self.new)) }
-        ensures end { OnOk result (unread_in self.new ≡ [] → IsAtEnd (F.remaining file.new)) }
-        ensures err { OnErr result (Keeps (F.remaining file.old) (F.remaining file.new)) }
+    pub(super) fn fill<F: Read + Drop>(&mut self, file: &mut Reader<F>) -> io::Result<()>
+        ensures ok { OnOk result (Consumes file.old.left file.new.left (unread_in self.new)) }
+        ensures end { OnOk result (unread_in self.new ≡ [] → IsAtEnd file.new.left) }
+        ensures err { OnErr result (Keeps file.old.left file.new.left) }
         ensures empty { OnErr result (unread_in self.new ≡ []) }
+        ensures failed { file.new.failed ≡ is_err result }
     {
         self.start = 0;
         self.end = 0;
         self.end = read_piece(file, &mut self.bytes)?;
         Ok(())
+    }
+
+    /// What was not given on yet.
+    pub(super) fn unread(&self) -> &[u8]
+        ensures { result.now ≡ unread_in self.now }
+    {
+        &self.bytes[self.start..self.end]
+    }
+
+    /// Gives on the first `n` of those bytes.
+    pub(super) fn skip(&mut self, n: usize)
+        requires { n ≤ length (unread_in self.old) }
+        ensures { unread_in self.new ≡ drop n (unread_in self.old) }
+    {
+        self.start += n;
     }
 
     /// Gives on as many bytes as it can, the first of those that were not given on, and answers how
@@ -68,20 +88,21 @@ impl Window {
         ensures beyond { drop result buf.new ≡ drop result buf.old }
         ensures rest { unread_in self.new ≡ drop result (unread_in self.old) }
     {
-        let n = buf.len().min(self.end - self.start);
-        let bytes = &self.bytes[..];
-        buf[..n].copy_from_slice(&bytes[self.start..self.start + n]);
-        self.start += n;
+        let bytes = self.unread();
+        let n = buf.len().min(bytes.len());
+        buf[..n].copy_from_slice(&bytes[..n]);
+        self.skip(n);
         n
     }
 }
 
-fn read_piece<F: Read>(file: &mut F, bytes: &mut [u8; PIECE]) -> io::Result<usize>
+fn read_piece<F: Read + Drop>(file: &mut Reader<F>, bytes: &mut [u8; PIECE]) -> io::Result<usize>
     ensures within { ReadsAtMost result bytes.new }
     ensures most { IfOk result (λ n. n ≤ 65536) }
-    ensures ok { IfOk result (λ n. Consumes (F.remaining file.old) (F.remaining file.new) (take n bytes.new)) }
-    ensures end { IfOk result (λ n. n ≡ 0 → IsAtEnd (F.remaining file.new)) }
-    ensures err { OnErr result (Keeps (F.remaining file.old) (F.remaining file.new)) }
+    ensures ok { IfOk result (λ n. Consumes file.old.left file.new.left (take n bytes.new)) }
+    ensures end { IfOk result (λ n. n ≡ 0 → IsAtEnd file.new.left) }
+    ensures err { OnErr result (Keeps file.old.left file.new.left) }
+    ensures failed { file.new.failed ≡ is_err result }
 {
     file.read(&mut bytes[..])
 }
