@@ -10,5 +10,5 @@ pub mod AgainRetire
 pub mod Frames
 pub mod Taking
 pub mod Masked
-pub mod PutsLaws
+pub mod CsrLaws
 pub mod CutLaws

@@ -4,4 +4,3 @@ pub mod Frames
 pub mod Reading
 pub mod Cut
 pub mod Taking
-pub mod Puts

@@ -1,6 +1,8 @@
+//! How a message is spelled in its one frame.
+
 ghost use Rattle.std.specs.Prelude.{◌≡◌, ◌+◌, ◌*◌, ◌≤◌, length, take, drop};
 ghost use Rattle.msg_frames.specs.Frames.{frame, head_bytes, body_bytes, open_bytes, poke_bytes, piece_bytes, write_bytes, retire_bytes, csr_bytes, flag, target_code, target_number, rd_number, rd_value, Fits};
-ghost use Rattle.msg_frames.specs.Puts.{Puts};
+ghost use Rattle.tandem_base.specs.Puts.{Puts};
 ghost use Rattle.std.specs.List.{flat_map};
 
 use super::csrs::CsrList;
@@ -9,7 +11,7 @@ use super::message::{
     Body, Head, LineWrite, Message, OpenInfo, Piece, Poke, RdValue, Retire, Target,
 };
 use super::sizes::body_size;
-use tandem_base::Bytes8;
+use tandem_base::{Bytes8, put};
 
 /// Writes the one frame of a well-formed message to the front of `out`, and answers its size.
 pub fn encode(message: &Message, out: &mut [u8; 514]) -> usize
@@ -24,9 +26,8 @@ pub fn encode(message: &Message, out: &mut [u8; 514]) -> usize
 
 fn put_message(out: &mut [u8], message: &Message) -> usize
     requires { length out.old ≡ 514 }
-    ensures end { result ≡ length (frame message.now) }
-    ensures bound { result ≤ 514 }
     ensures puts { Puts 0 out.old result out.new (frame message.now) }
+    ensures bound { result ≤ 514 }
 {
     let size = 18 + body_size(&message.body);
     let code = kind_of(&message.body).code();
@@ -34,21 +35,9 @@ fn put_message(out: &mut [u8], message: &Message) -> usize
     put_body(out, &message.body)
 }
 
-/// Writes bytes into `out` from offset `at` on, and answers the offset behind them.
-fn put(out: &mut [u8], at: usize, bytes: &[u8]) -> usize
-    requires { at + length bytes.now ≤ length out.old }
-    ensures end { result ≡ at + length bytes.now }
-    ensures puts { Puts at out.old result out.new bytes.now }
-{
-    let end = at + bytes.len();
-    out[at..end].copy_from_slice(bytes);
-    end
-}
-
 fn put_head(out: &mut [u8], size: u16, code: u8, head: Head) -> usize
     requires { length out.old ≡ 514 }
-    ensures end { result ≡ 20 }
-    ensures puts { Puts 0 out.old result out.new (head_bytes size code head) }
+    ensures { Puts 0 out.old result out.new (head_bytes size code head) }
 {
     let end = put(out, 0, &size.to_le_bytes());
     let end = put(out, end, &[code, head.hart]);
@@ -59,8 +48,7 @@ fn put_head(out: &mut [u8], size: u16, code: u8, head: Head) -> usize
 /// Writes the fields of a message behind the head of its frame.
 fn put_body(out: &mut [u8], body: &Body) -> usize
     requires { length out.old ≡ 514 }
-    ensures end { result ≡ 20 + length (body_bytes body.now) }
-    ensures puts { Puts 20 out.old result out.new (body_bytes body.now) }
+    ensures { Puts 20 out.old result out.new (body_bytes body.now) }
 {
     match body {
         Body::Open(info) => put_open(out, info),
@@ -74,8 +62,7 @@ fn put_body(out: &mut [u8], body: &Body) -> usize
 
 fn put_open(out: &mut [u8], info: &OpenInfo) -> usize
     requires { length out.old ≡ 514 }
-    ensures end { result ≡ 20 + length (open_bytes info.now) }
-    ensures puts { Puts 20 out.old result out.new (open_bytes info.now) }
+    ensures { Puts 20 out.old result out.new (open_bytes info.now) }
 {
     let end = put(
         out,
@@ -107,8 +94,7 @@ fn target_number(target: Target) -> u16
 
 fn put_poke(out: &mut [u8], poke: &Poke) -> usize
     requires { length out.old ≡ 514 }
-    ensures end { result ≡ 20 + length (poke_bytes poke.now) }
-    ensures puts { Puts 20 out.old result out.new (poke_bytes poke.now) }
+    ensures { Puts 20 out.old result out.new (poke_bytes poke.now) }
 {
     let end = put(out, 20, &[target_code(poke.target), 0]);
     let end = put(out, end, &target_number(poke.target).to_le_bytes());
@@ -117,19 +103,17 @@ fn put_poke(out: &mut [u8], poke: &Poke) -> usize
 
 fn put_piece(out: &mut [u8], piece: &Piece) -> usize
     requires { length out.old ≡ 514 }
-    ensures end { result ≡ 20 + length (piece_bytes piece.now) }
-    ensures puts { Puts 20 out.old result out.new (piece_bytes piece.now) }
+    ensures { Puts 20 out.old result out.new (piece_bytes piece.now) }
 {
     let end = put(out, 20, &piece.addr.to_le_bytes());
     let end = put(out, end, &[piece.bytes.len()]);
     put_bytes(out, end, &piece.bytes)
 }
 
-#[tactic(auto, using(crate::proofs::PutsLaws::puts_then))]
+#[tactic(auto, using(tandem_base::proofs::PutsLaws::puts_then))]
 fn put_bytes(out: &mut [u8], at: usize, bytes: &Bytes8) -> usize
     requires { at + 8 ≤ length out.old }
-    ensures end { result ≡ at + length bytes.now }
-    ensures puts { Puts at out.old result out.new bytes.now }
+    ensures { Puts at out.old result out.new bytes.now }
 {
     let mut end = at;
     for k in 0..bytes.len() {
@@ -140,8 +124,7 @@ fn put_bytes(out: &mut [u8], at: usize, bytes: &Bytes8) -> usize
 
 fn put_write(out: &mut [u8], write: &LineWrite) -> usize
     requires { length out.old ≡ 514 }
-    ensures end { result ≡ 20 + length (write_bytes write.now) }
-    ensures puts { Puts 20 out.old result out.new (write_bytes write.now) }
+    ensures { Puts 20 out.old result out.new (write_bytes write.now) }
 {
     let end = put(out, 20, &write.line.to_le_bytes());
     let end = put(out, end, &write.mask.to_le_bytes());
@@ -175,8 +158,7 @@ fn rd_of(rd: Option<RdValue>) -> (u8, u64)
 
 fn put_retire(out: &mut [u8], retire: &Retire) -> usize
     requires { length out.old ≡ 514 }
-    ensures end { result ≡ 20 + length (retire_bytes retire.now) }
-    ensures puts { Puts 20 out.old result out.new (retire_bytes retire.now) }
+    ensures { Puts 20 out.old result out.new (retire_bytes retire.now) }
 {
     let (number, value) = rd_of(retire.rd);
     let flags = flags_of(retire.trap, retire.rd);
@@ -191,8 +173,7 @@ fn put_retire(out: &mut [u8], retire: &Retire) -> usize
 
 fn put_csrs(out: &mut [u8], at: usize, csrs: &CsrList) -> usize
     requires { at + 40 ≤ length out.old }
-    ensures end { result ≡ at + 10 * length csrs.now }
-    ensures puts { Puts at out.old result out.new (flat_map csr_bytes csrs.now) }
+    ensures { Puts at out.old result out.new (flat_map csr_bytes csrs.now) }
 {
     let mut end = at;
     for k in 0..csrs.len() {

@@ -41,6 +41,7 @@ fn fill<S: Source>(src: &mut S, buf: &mut [u8]) -> Filled
     ensures ended { S.ended src.new ≡ has_ended result }
     ensures count { S.faults src.old ≤ S.faults src.new }
     ensures cause { result ≡ Filled.Failed → Rose (S.faults src.old) (S.faults src.new) }
+    ensures opened { S.is_open src.new ≡ S.is_open src.old }
     ensures beside { S.aside src.new ≡ S.aside src.old }
 {
     let mut have = 0;
@@ -63,6 +64,7 @@ pub fn next_message_in<S: Source>(src: &mut S, buf: &mut [u8]) -> Next
     ensures ended { S.ended src.new ≡ is_ended result }
     ensures count { S.faults src.old ≤ S.faults src.new }
     ensures cause { result ≡ Next.Failed → Rose (S.faults src.old) (S.faults src.new) }
+    ensures opened { S.is_open src.new ≡ S.is_open src.old }
     ensures beside { S.aside src.new ≡ S.aside src.old }
 {
     match fill(src, &mut buf[..2]) {
@@ -94,6 +96,7 @@ pub fn next_message<S: Source>(src: &mut S) -> Next
     ensures ended { S.ended src.new ≡ is_ended result }
     ensures count { S.faults src.old ≤ S.faults src.new }
     ensures cause { result ≡ Next.Failed → Rose (S.faults src.old) (S.faults src.new) }
+    ensures opened { S.is_open src.new ≡ S.is_open src.old }
     ensures beside { S.aside src.new ≡ S.aside src.old }
 {
     let mut buf = [0; 514];

@@ -1,5 +1,5 @@
 use Rattle.std.proofs.Common.{◌≡◌, ◌+◌, take}
-use Rattle.msg_frames.specs.Puts.{Puts}
+use Rattle.tandem_base.specs.Puts.{Puts}
 use Rattle.msg_frames.proofs.encoding.put_bytes.Given as goal
 
 abbrev pub invariant-loop-k : goal.invariant-loop-k

@@ -1,7 +1,7 @@
 use Rattle.std.proofs.Common.{◌≡◌, ◌+◌, ◌*◌, take}
 use Rattle.std.specs.List.{flat_map}
 use Rattle.msg_frames.specs.Frames.{csr_bytes}
-use Rattle.msg_frames.specs.Puts.{Puts}
+use Rattle.tandem_base.specs.Puts.{Puts}
 use Rattle.msg_frames.proofs.encoding.put_csrs.Given as goal
 
 abbrev pub invariant-loop-k : goal.invariant-loop-k

@@ -1,6 +1,6 @@
 use Rattle.std.proofs.Common.{refl}
-use Rattle.msg_frames.proofs.PutsLaws.{puts_then, puts_as}
+use Rattle.tandem_base.proofs.PutsLaws.{puts_then, puts_as}
 use Rattle.msg_frames.proofs.encoding.put_open.Goals as goal
 
-pub returns-clause-puts : goal.returns-clause-puts
-returns-clause-puts c = puts_as (puts_then c.put-end.ensures.puts c.put.ensures.puts) (rw c.to_le_bytes.ensures refl)
+pub returns : goal.returns
+returns c = puts_as (puts_then c.put-end.ensures c.put.ensures) (rw c.to_le_bytes.ensures refl)

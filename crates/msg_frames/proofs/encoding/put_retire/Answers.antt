@@ -1,10 +1,10 @@
 use Rattle.std.proofs.Common.{refl}
-use Rattle.msg_frames.proofs.PutsLaws.{puts_then, puts_as}
+use Rattle.tandem_base.proofs.PutsLaws.{puts_then, puts_as}
 use Rattle.msg_frames.proofs.encoding.put_retire.Goals as goal
 
-pub returns-clause-puts : goal.returns-clause-puts
-returns-clause-puts c =
-    puts_as (puts_then (puts_then (puts_then (puts_then (puts_then c.put-end.ensures.puts c.put-end-2.ensures.puts) c.put-end-3.ensures.puts) c.put-end-4.ensures.puts) c.put-end-5.ensures.puts) c.put_csrs.ensures.puts)
+pub returns : goal.returns
+returns c =
+    puts_as (puts_then (puts_then (puts_then (puts_then (puts_then c.put-end.ensures c.put-end-2.ensures) c.put-end-3.ensures) c.put-end-4.ensures) c.put-end-5.ensures) c.put_csrs.ensures)
     (rw (
       c.to_le_bytes.ensures,
       c.to_le_bytes-2.ensures,

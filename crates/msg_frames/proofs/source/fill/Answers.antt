@@ -14,5 +14,6 @@ loop-have-preserved g c =
       inside = search rules;
       running = λ some. r.end ∙ ne_eqb c.in-Ok.n 0 c.in-Ok.n-test.1;
       count = omega (arith, r.count, c.loop-have.invariant.count);
+      opened = r.opened ∙ c.loop-have.invariant.opened;
       beside = r.beside ∙ c.loop-have.invariant.beside;
     }

@@ -8,6 +8,7 @@ invariant-loop-have g l = record {
   inside : l.have ≤ length l.buf;
   running : 0 < l.have → g.S.Source.ended l.src ≡ false;
   count : g.S.Source.faults l.fn.src ≤ g.S.Source.faults l.src;
+  opened : g.S.Source.is_open l.src ≡ g.S.Source.is_open l.fn.src;
   beside : g.S.Source.aside l.src ≡ g.S.Source.aside l.fn.src;
 }
 
