@@ -3,7 +3,7 @@
 -- instructions and the counters; the profile of machine mode is this project's own).
 use Rattle.std.specs.Prelude.{ℕ, ◌+◌, ◌-◌, ◌*◌, ◌/◌, ◌%◌, ◌^◌, ◌==◌, Bool, not, if◌then◌else◌, nat_eq}
 use Rattle.std.specs.List.{list_any}
-use Rattle.csr_file.specs.Numbers as csr
+use Rattle.tandem_base.specs.CsrNumbers as csr
 use Rattle.csr_file.specs.declared.answers.CsrRead.{CsrRead}
 use Rattle.csr_file.specs.declared.answers.CsrRead.TheVariants as read
 use Rattle.csr_file.specs.declared.answers.CsrWrite.{CsrWrite}
@@ -20,6 +20,7 @@ pub record CsrValues : Type 0 where
   pub mtval : ℕ
   pub mhartid : ℕ
 
+-- there is a register of this number
 abbrev pub is_csr : ℕ → Bool
 is_csr number = list_any (nat_eq number) csr.numbers
 

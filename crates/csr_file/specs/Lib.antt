@@ -1,2 +1,1 @@
 pub mod CsrFile
-pub mod Numbers

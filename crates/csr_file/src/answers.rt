@@ -1,3 +1,5 @@
+//! What reads and writes of registers answer.
+
 /// What a read of a register gives.
 #[derive(Clone, Copy, Debug, PartialEq, Eq)]
 pub enum CsrRead {

@@ -1,11 +1,14 @@
+//! The registers of one hart, and what reads, writes, traps and MRET do to them.
+
 ghost use Rattle.std.specs.Prelude.{◌≡◌, ◌%◌, ◌↔◌, Bool, false};
-ghost use Rattle.csr_file.specs.CsrFile.{is_csr, is_read_only, read_of, write_of, written, csrs_at_start, trapped, returned, mstatus_kept, mie_kept, multiple_of_4};
+ghost use Rattle.csr_file.specs.CsrFile.{is_csr, is_read_only, read_of, write_of, written, csrs_at_start, trapped};
+ghost use Rattle.csr_file.specs.CsrFile.{returned, mstatus_kept, mie_kept, multiple_of_4};
 
 use crate::answers::{CsrRead, CsrWrite};
-use crate::{
+use std::marker::Model;
+use tandem_base::csrs::{
     CYCLE, INSTRET, MCAUSE, MEPC, MHARTID, MIE, MIP, MSCRATCH, MSTATUS, MTVAL, MTVEC, TIME,
 };
-use std::marker::Model;
 
 /// The control and status registers of one hart. Contracts see the values that they hold.
 #[derive(Clone, Copy, Debug, PartialEq, Eq)]
@@ -26,25 +29,46 @@ impl Model for Csrs {
 
     ghost Value = { CsrValues };
 
-    ghost view = { λ c. record { mstatus = c.mstatus; mie = c.mie; mtvec = c.mtvec; mscratch = c.mscratch; mepc = c.mepc; mcause = c.mcause; mtval = c.mtval; mhartid = c.mhartid } };
+    ghost view = { λ c. record {
+      mstatus = c.mstatus;
+      mie = c.mie;
+      mtvec = c.mtvec;
+      mscratch = c.mscratch;
+      mepc = c.mepc;
+      mcause = c.mcause;
+      mtval = c.mtval;
+      mhartid = c.mhartid;
+    } };
 
     ghost invariant = { λ c. (c.mtvec % 4 ≡ 0) × (c.mepc % 4 ≡ 0) };
 
-    ghost inverse = { λ v. record { mstatus = v.mstatus; mie = v.mie; mtvec = v.mtvec; mscratch = v.mscratch; mepc = v.mepc; mcause = v.mcause; mtval = v.mtval; mhartid = v.mhartid } };
+    ghost inverse = { λ v. record {
+      mstatus = v.mstatus;
+      mie = v.mie;
+      mtvec = v.mtvec;
+      mscratch = v.mscratch;
+      mepc = v.mepc;
+      mcause = v.mcause;
+      mtval = v.mtval;
+      mhartid = v.mhartid;
+    } };
 }
 
+/// What mstatus keeps of a value: MIE and MPIE.
 fn kept_in_mstatus(value: u64) -> u64
     ensures { result ≡ mstatus_kept value }
 {
     0x1800 + value / 0x80 % 2 * 0x80 + value / 8 % 2 * 8
 }
 
+/// What mie keeps of a value: MSIE, MTIE and MEIE.
 fn kept_in_mie(value: u64) -> u64
     ensures { result ≡ mie_kept value }
 {
     value / 0x800 % 2 * 0x800 + value / 0x80 % 2 * 0x80 + value / 8 % 2 * 8
 }
 
+/// Bits 63:2 of a value.
 fn without_low_bits(value: u64) -> u64
     ensures value { result ≡ multiple_of_4 value }
     ensures aligned { result % 4 ≡ 0 }

@@ -1,4 +1,9 @@
-use super::*;
+//! What registers keep, and what traps and MRET do.
+
+use crate::{CsrRead, CsrWrite, Csrs};
+use tandem_base::csrs::{
+    CYCLE, INSTRET, MCAUSE, MEPC, MHARTID, MIE, MIP, MSCRATCH, MSTATUS, MTVAL, MTVEC, TIME,
+};
 
 #[test]
 fn keeps_what_its_bits_allow(rt: HostRuntime) {
