@@ -1,7 +1,7 @@
 -- What an instruction is to do suits the hart.
 use Rattle.std.proofs.Common.{◌≡◌, ℕ, ◌%◌, ◌==◌, Bool, true, false, not, refl, sym, ◌∙◌, subst, Option, Some, None, if◌then◌else◌}
 use Rattle.std.proofs.lemmas.Bool.{eqb-true, false≢true, not-false}
-use Rattle.elf_image.specs.Images.{ImageOf}
+use Rattle.elf_image.specs.Images.{Loaded}
 use Rattle.rv_decode.specs.Listing.{IsInsn}
 use Rattle.rv_decode.specs.declared.instruction.Insn.{Insn}
 use Rattle.rv_decode.specs.declared.instruction.Insn.TheVariants.{Lui, Auipc, Jal, Jalr, Branch, Load, Store, AluImm, Alu, Fence, Ecall, Ebreak, Mret, Wfi, Csr, Lr, Sc, Amo}
@@ -33,7 +33,7 @@ jump_suits hart insn target suits =
     choice_suits hart (target % 4 == 0) (plain insn) (trap MISALIGNED_FETCH target)
     (λ even. suits (eqb-true _ _ even)) (λ _. tt)
 
-pub doing_of-suits : (hart : HartState) (image : ImageOf) (config : Config) (word : ℕ) (insn : Insn)
+pub doing_of-suits : (hart : HartState) (image : Loaded) (config : Config) (word : ℕ) (insn : Insn)
     → IsInsn insn → Suits hart (doing_of hart image config word insn)
 doing_of-suits hart image config word (Lui rd imm) fits = fits.0
 doing_of-suits hart image config word (Auipc rd imm) fits = fits.0
@@ -81,7 +81,7 @@ doing_of-suits hart image config word (Amo op wide aq rl rd rs1 rs2) fits =
     (x_of hart rs1) (amo (Amo op wide aq rl rd rs1 rs2) (x_of hart rs1) (atomic_size wide)) (fits.0, fits.2, refl, refl)
 
 -- the same, of what equals it
-pub suits_by : (hart : HartState) (image : ImageOf) (config : Config) (word : ℕ) (insn : Insn)
+pub suits_by : (hart : HartState) (image : Loaded) (config : Config) (word : ℕ) (insn : Insn)
     (doing : Doing) → IsInsn insn → doing ≡ doing_of hart image config word insn → Suits hart doing
 suits_by hart image config word insn doing fits same =
     subst (λ (d : Doing). Suits hart d) (sym same) (doing_of-suits hart image config word insn fits)

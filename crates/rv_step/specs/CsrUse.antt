@@ -1,22 +1,13 @@
 -- What the CSR instructions read and write (Unprivileged ISA 20191213, sections 9.1 and 10.1).
-use Rattle.std.specs.Prelude.{ℕ, ◌-◌, ◌^◌, ◌==◌, Bool, true, not, ◌&&◌, ◌||◌, bit_and, bit_or}
+use Rattle.std.specs.Prelude.{ℕ, ◌-◌, ◌^◌, ◌==◌, Bool, not, ◌&&◌, ◌||◌, bit_and, bit_or}
 use Rattle.csr_file.specs.CsrFile.{is_csr, is_read_only, read_of}
-use Rattle.csr_file.specs.Numbers as csr
+use Rattle.tandem_base.specs.CsrNumbers as csr
 use Rattle.csr_file.specs.declared.answers.CsrRead.{CsrRead}
 use Rattle.csr_file.specs.declared.answers.CsrRead.TheVariants as read
 use Rattle.rv_decode.specs.declared.operations.CsrOp.{CsrOp}
 use Rattle.rv_decode.specs.declared.operations.CsrOp.TheVariants.{Rw, Rs, Rc, Rwi, Rsi, Rci}
+use Rattle.rv_decode.specs.Registers.{writes_csr}
 use Rattle.rv_step.specs.Harts.{HartState, x_of}
-
--- the instruction writes the CSR: the forms that set or clear bits don't where the register is x0,
--- or the immediate 0
-abbrev pub writes_csr : CsrOp → ℕ → Bool
-writes_csr Rw source = true
-writes_csr Rs source = not (source == 0)
-writes_csr Rc source = not (source == 0)
-writes_csr Rwi source = true
-writes_csr Rsi source = not (source == 0)
-writes_csr Rci source = not (source == 0)
 
 -- a CSR of this number is there, and it isn't a read-only one that is written
 abbrev pub is_legal_csr : CsrOp → ℕ → ℕ → Bool

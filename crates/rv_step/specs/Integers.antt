@@ -1,7 +1,7 @@
 -- The results of the integer instructions (Unprivileged ISA 20191213), modulo 2 ^ 64.
 use Rattle.std.specs.Prelude.{ℕ, ◌+◌, ◌-◌, ◌*◌, ◌/◌, ◌%◌, ◌^◌, ◌==◌, ℤ, Bool, true, false, not, nat_lt, bit_and, bit_or, bit_xor, if◌then◌else◌}
 use Rattle.std.specs.Int.{w64, cast_unsigned}
-use Rattle.tandem_base.specs.Signs.{is_negative, sext_of}
+use Rattle.tandem_base.specs.Signs.{is_negative, sign_extended}
 use Rattle.tandem_base.specs.Multiplication.{mulh_of, mulhu_of, mulhsu_of}
 use Rattle.tandem_base.specs.Division.{div_of, divu_of, rem_of, remu_of}
 use Rattle.rv_decode.specs.declared.operations.BranchOp.{BranchOp}
@@ -32,8 +32,8 @@ low_word a = a % 2 ^ 32
 abbrev pub sum_of : ℕ → ℕ → ℕ
 sum_of a b = (a + b) % 2 ^ 64
 
-abbrev pub difference_of : ℕ → ℕ → ℕ
-difference_of a b = (a + (2 ^ 64 - b)) % 2 ^ 64
+abbrev pub sub_of : ℕ → ℕ → ℕ
+sub_of a b = (a + (2 ^ 64 - b)) % 2 ^ 64
 
 abbrev pub sll_of : ℕ → ℕ → ℕ
 sll_of a amount = a * 2 ^ amount % 2 ^ 64
@@ -47,35 +47,35 @@ sra_of width a amount =
 
 -- two registers: sections 2.4 and 5.2 (the amount of a shift is in the low 6 bits of rs2, or in the
 -- low 5 for a word), 7.1 and 7.2; the W forms work on the low 32 bits, and sign-extend the result
-abbrev pub alu_of : RegOp → ℕ → ℕ → ℕ
-alu_of Add a b = sum_of a b
-alu_of Sub a b = difference_of a b
-alu_of Sll a b = sll_of a (b % 64)
-alu_of Slt a b = number_of_test (less_signed 64 a b)
-alu_of Sltu a b = number_of_test (nat_lt a b)
-alu_of Xor a b = bit_xor a b
-alu_of Srl a b = srl_of a (b % 64)
-alu_of Sra a b = sra_of 64 a (b % 64)
-alu_of Or a b = bit_or a b
-alu_of And a b = bit_and a b
-alu_of Mul a b = a * b % 2 ^ 64
-alu_of Mulh a b = mulh_of a b
-alu_of Mulhsu a b = mulhsu_of a b
-alu_of Mulhu a b = mulhu_of a b
-alu_of Div a b = div_of 64 a b
-alu_of Divu a b = divu_of 64 a b
-alu_of Rem a b = rem_of 64 a b
-alu_of Remu a b = remu_of a b
-alu_of Addw a b = sext_of (sum_of a b) 32
-alu_of Subw a b = sext_of (difference_of a b) 32
-alu_of Sllw a b = sext_of (sll_of a (b % 32)) 32
-alu_of Srlw a b = sext_of (srl_of (low_word a) (b % 32)) 32
-alu_of Sraw a b = sext_of (sra_of 32 (low_word a) (b % 32)) 32
-alu_of Mulw a b = sext_of (a * b % 2 ^ 64) 32
-alu_of Divw a b = sext_of (div_of 32 (low_word a) (low_word b)) 32
-alu_of Divuw a b = sext_of (divu_of 32 (low_word a) (low_word b)) 32
-alu_of Remw a b = sext_of (rem_of 32 (low_word a) (low_word b)) 32
-alu_of Remuw a b = sext_of (remu_of (low_word a) (low_word b)) 32
+abbrev pub alu_result : RegOp → ℕ → ℕ → ℕ
+alu_result Add a b = sum_of a b
+alu_result Sub a b = sub_of a b
+alu_result Sll a b = sll_of a (b % 64)
+alu_result Slt a b = number_of_test (less_signed 64 a b)
+alu_result Sltu a b = number_of_test (nat_lt a b)
+alu_result Xor a b = bit_xor a b
+alu_result Srl a b = srl_of a (b % 64)
+alu_result Sra a b = sra_of 64 a (b % 64)
+alu_result Or a b = bit_or a b
+alu_result And a b = bit_and a b
+alu_result Mul a b = a * b % 2 ^ 64
+alu_result Mulh a b = mulh_of a b
+alu_result Mulhsu a b = mulhsu_of a b
+alu_result Mulhu a b = mulhu_of a b
+alu_result Div a b = div_of 64 a b
+alu_result Divu a b = divu_of 64 a b
+alu_result Rem a b = rem_of 64 a b
+alu_result Remu a b = remu_of a b
+alu_result Addw a b = sign_extended 32 (sum_of a b)
+alu_result Subw a b = sign_extended 32 (sub_of a b)
+alu_result Sllw a b = sign_extended 32 (sll_of a (b % 32))
+alu_result Srlw a b = sign_extended 32 (srl_of (low_word a) (b % 32))
+alu_result Sraw a b = sign_extended 32 (sra_of 32 (low_word a) (b % 32))
+alu_result Mulw a b = sign_extended 32 (a * b % 2 ^ 64)
+alu_result Divw a b = sign_extended 32 (div_of 32 (low_word a) (low_word b))
+alu_result Divuw a b = sign_extended 32 (divu_of 32 (low_word a) (low_word b))
+alu_result Remw a b = sign_extended 32 (rem_of 32 (low_word a) (low_word b))
+alu_result Remuw a b = sign_extended 32 (remu_of (low_word a) (low_word b))
 
 -- the operation on two registers that an operation on an immediate makes
 abbrev pub with_register : ImmOp → RegOp
@@ -94,8 +94,8 @@ with_register Srliw = Srlw
 with_register Sraiw = Sraw
 
 -- a register and an immediate, sign-extended to 64 bits: sections 2.4 and 5.2
-abbrev pub alu_imm_of : ImmOp → ℕ → ℤ → ℕ
-alu_imm_of op a imm = alu_of (with_register op) a (cast_unsigned w64 imm)
+abbrev pub alu_imm_result : ImmOp → ℕ → ℤ → ℕ
+alu_imm_result op a imm = alu_result (with_register op) a (cast_unsigned w64 imm)
 
 -- a branch is taken: section 2.5
 abbrev pub is_taken : BranchOp → ℕ → ℕ → Bool

@@ -1,7 +1,7 @@
 -- The values that loads, stores and atomic instructions read and write (Unprivileged ISA 20191213).
 use Rattle.std.specs.Prelude.{ℕ, ◌+◌, ◌%◌, ◌^◌, Bool, List, [], take, nat_lt, bit_and, bit_or, bit_xor, Option, Some, None, if◌then◌else◌}
 use Rattle.std.specs.Int.{w64, to_le_bytes}
-use Rattle.tandem_base.specs.Signs.{sext_of}
+use Rattle.tandem_base.specs.Signs.{sign_extended}
 use Rattle.rv_step.specs.Integers.{less_signed}
 use Rattle.rv_decode.specs.declared.operations.LoadOp.{LoadOp}
 use Rattle.rv_decode.specs.declared.operations.LoadOp.TheVariants.{Lb, Lh, Lw, Ld, Lbu, Lhu, Lwu}
@@ -42,9 +42,9 @@ bytes_of (Some bytes) = bytes
 -- what a load gives of the number it reads: LW, LH and LB sign-extend, LWU, LHU and LBU
 -- zero-extend (sections 2.6 and 5.3)
 abbrev pub loaded : LoadOp → ℕ → ℕ
-loaded Lb number = sext_of number 8
-loaded Lh number = sext_of number 16
-loaded Lw number = sext_of number 32
+loaded Lb number = sign_extended 8 number
+loaded Lh number = sign_extended 16 number
+loaded Lw number = sign_extended 32 number
 loaded Ld number = number
 loaded Lbu number = number
 loaded Lhu number = number

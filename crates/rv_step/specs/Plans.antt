@@ -1,7 +1,7 @@
 -- What the instruction at a hart's pc is to do: the trap that it raises, or the bytes that it
 -- accesses (Unprivileged ISA 20191213; the profile of traps is this project's own).
 use Rattle.std.specs.Prelude.{ℕ, zero, suc, ◌≡◌, ◌+◌, ◌%◌, ◌^◌, ◌<◌, ◌==◌, Bool, true, false, not, ◌&&◌, nat_le, Option, Some, None, is_some, if◌then◌else◌}
-use Rattle.elf_image.specs.Images.{ImageOf, byte_of, word_at}
+use Rattle.elf_image.specs.Images.{Loaded, word_at}
 use Rattle.rv_decode.specs.Decoding.{decoding}
 use Rattle.rv_decode.specs.declared.instruction.Insn.{Insn}
 use Rattle.rv_decode.specs.declared.instruction.Insn.TheVariants.{Lui, Auipc, Jal, Jalr, Branch, Load, Store, AluImm, Alu, Fence, Ecall, Ebreak, Mret, Wfi, Csr, Lr, Sc, Amo}
@@ -22,17 +22,17 @@ abbrev pub illegal : Config → ℕ → Doing
 illegal config word = trap illegal_instruction (if config.mtval_word then word else 0)
 
 -- the image has each of the bytes from an address on
-unfoldable pub has_bytes : ImageOf → ℕ → ℕ → Bool
+unfoldable pub has_bytes : Loaded → ℕ → ℕ → Bool
 has_bytes image addr zero = true
-has_bytes image addr (suc len) = has_bytes image addr len && is_some (byte_of image (addr + len))
+has_bytes image addr (suc len) = has_bytes image addr len && is_some (image.byte_at (addr + len))
 
 -- the same, where the bytes don't pass 2 ^ 64
-abbrev pub is_held : ImageOf → ℕ → ℕ → Bool
+abbrev pub is_held : Loaded → ℕ → ℕ → Bool
 is_held image addr len = nat_le (addr + len) (2 ^ 64) && has_bytes image addr len
 
 -- the cause that an access raises: first that it must be aligned and isn't, then that a byte is
 -- outside the image
-abbrev pub access_fault : ImageOf → Bool → ℕ → ℕ → ℕ → ℕ → Option ℕ
+abbrev pub access_fault : Loaded → Bool → ℕ → ℕ → ℕ → ℕ → Option ℕ
 access_fault image must_align misaligned fault addr len =
     if must_align && not (addr % len == 0) then Some misaligned
     else if not (is_held image addr len) then Some fault
@@ -49,7 +49,7 @@ jumps insn target = if target % 4 == 0 then plain insn else trap misaligned_fetc
 
 -- what an instruction is to do; misaligned loads and stores trap where the settings say so, and
 -- misaligned atomic instructions always
-abbrev pub doing_of : HartState → ImageOf → Config → ℕ → Insn → Doing
+abbrev pub doing_of : HartState → Loaded → Config → ℕ → Insn → Doing
 doing_of hart image config word (Lui rd imm) = plain (Lui rd imm)
 doing_of hart image config word (Auipc rd imm) = plain (Auipc rd imm)
 doing_of hart image config word (Jal rd imm) = jumps (Jal rd imm) (plus hart.pc imm)
@@ -92,7 +92,7 @@ doing_of hart image config word (Amo op wide aq rl rd rs1 rs2) =
     (amo (Amo op wide aq rl rd rs1 rs2) addr (atomic_size wide))
 
 -- what a word is to do, by the instruction that it encodes
-abbrev pub doing_word : HartState → ImageOf → Config → ℕ → Option Insn → Doing
+abbrev pub doing_word : HartState → Loaded → Config → ℕ → Option Insn → Doing
 doing_word hart image config word None = illegal config word
 doing_word hart image config word (Some insn) = doing_of hart image config word insn
 
@@ -101,17 +101,17 @@ pub record PlanOf : Type 0 where
   pub word : ℕ
   pub doing : Doing
 
-abbrev pub plan_fetched : HartState → ImageOf → Config → Option ℕ → PlanOf
+abbrev pub plan_fetched : HartState → Loaded → Config → Option ℕ → PlanOf
 plan_fetched hart image config None = record { word = 0; doing = trap fetch_fault hart.pc }
 plan_fetched hart image config (Some word) =
     record { word = word; doing = doing_word hart image config word (decoding word) }
 
 -- the plan of a hart
-abbrev pub plan_of : HartState → ImageOf → Config → PlanOf
+abbrev pub plan_of : HartState → Loaded → Config → PlanOf
 plan_of hart image config = plan_fetched hart image config (word_at image hart.pc)
 
 -- the step of a hart: what its plan does, with the values that come from outside
-abbrev pub Step : HartState → ImageOf → Config → Outside → Done
+abbrev pub Step : HartState → Loaded → Config → Outside → Done
 Step hart image config outside = finished hart outside (plan_of hart image config).doing
 
 -- a plan as the calls show it

@@ -2,10 +2,10 @@
 -- II, sections 3.2.2 and 3.2.3; the profile of traps is this project's own).
 use Rattle.std.specs.Prelude.{ℕ, ◌≡◌, ◌+◌, ◌%◌, ◌^◌, ◌==◌, List, [], ◌∷◌, length, Option, Some, None, MatchOption, if◌then◌else◌}
 use Rattle.std.specs.Int.{w64, cast_unsigned}
-use Rattle.tandem_base.specs.Bytes.{number_of}
-use Rattle.tandem_base.specs.Signs.{sext_of}
+use Rattle.tandem_base.specs.Bytes.{little_endian}
+use Rattle.tandem_base.specs.Signs.{sign_extended}
 use Rattle.csr_file.specs.CsrFile.{kept, written, trapped, returned}
-use Rattle.csr_file.specs.Numbers as csr
+use Rattle.tandem_base.specs.CsrNumbers as csr
 use Rattle.msg_frames.specs.declared.csrs.CsrValue.{CsrValue}
 use Rattle.msg_frames.specs.declared.message.RdValue.{RdValue}
 use Rattle.rv_decode.specs.declared.operations.CsrOp.{CsrOp}
@@ -15,9 +15,10 @@ use Rattle.rv_step.specs.Causes.{breakpoint, environment_call}
 use Rattle.rv_step.specs.declared.effect.Effect.{Effect}
 use Rattle.rv_step.specs.declared.effect.Outside.{Outside}
 use Rattle.rv_step.specs.Harts.{HartState, x_of, with_x, plus, next_of}
-use Rattle.rv_step.specs.Integers.{alu_of, alu_imm_of, is_taken, without_low_bit}
+use Rattle.rv_step.specs.Integers.{alu_result, alu_imm_result, is_taken, without_low_bit}
 use Rattle.rv_step.specs.Memory.{store_size, atomic_size, atomic_width, bytes_of, loaded, low_bytes, amo_of}
-use Rattle.rv_step.specs.CsrUse.{writes_csr, operand_of, old_csr, new_csr}
+use Rattle.rv_decode.specs.Registers.{writes_csr}
+use Rattle.rv_step.specs.CsrUse.{operand_of, old_csr, new_csr}
 
 -- a hart after an instruction, and what the instruction reports
 pub record Done : Type 0 where
@@ -103,7 +104,7 @@ csr_done hart reported op rd source number =
 
 -- the number that was loaded
 abbrev pub number_loaded : Outside → ℕ
-number_loaded outside = number_of (bytes_of outside.load)
+number_loaded outside = little_endian (bytes_of outside.load)
 
 -- what an instruction does that raises no trap of its own beside ECALL and EBREAK
 abbrev pub executed : HartState → Outside → Insn → Done
@@ -123,9 +124,9 @@ executed hart outside (Store op rs1 rs2 imm) =
     stores (goes hart (next_of hart)) (plus (x_of hart rs1) imm) (low_bytes (x_of hart rs2) (store_size op))
 -- sections 2.4, 5.2, 7.1 and 7.2: integer operations
 executed hart outside (AluImm op rd rs1 imm) =
-    writes hart (next_of hart) rd (alu_imm_of op (x_of hart rs1) imm)
+    writes hart (next_of hart) rd (alu_imm_result op (x_of hart rs1) imm)
 executed hart outside (Alu op rd rs1 rs2) =
-    writes hart (next_of hart) rd (alu_of op (x_of hart rs1) (x_of hart rs2))
+    writes hart (next_of hart) rd (alu_result op (x_of hart rs1) (x_of hart rs2))
 -- section 2.7: a FENCE does nothing to registers
 executed hart outside (Fence fm pred succ rd rs1) = goes hart (next_of hart)
 -- section 2.8: ECALL and EBREAK
@@ -138,7 +139,7 @@ executed hart outside Wfi = goes hart (next_of hart)
 executed hart outside (Csr op rd source number) = csr_done hart outside.reported op rd source number
 -- section 8.2: LR and SC; a failed SC writes the reported value to rd
 executed hart outside (Lr wide aq rl rd rs1) =
-    writes hart (next_of hart) rd (sext_of (number_loaded outside) (atomic_width wide))
+    writes hart (next_of hart) rd (sign_extended (atomic_width wide) (number_loaded outside))
 executed hart outside (Sc wide aq rl rd rs1 rs2) =
     if outside.stored
     then stores (writes hart (next_of hart) rd 0) (x_of hart rs1) (low_bytes (x_of hart rs2) (atomic_size wide))
@@ -147,7 +148,7 @@ executed hart outside (Sc wide aq rl rd rs1 rs2) =
 executed hart outside (Amo op wide aq rl rd rs1 rs2) =
     let width = atomic_width wide in
     let old = number_loaded outside % 2 ^ width in
-    stores (writes hart (next_of hart) rd (sext_of old width)) (x_of hart rs1)
+    stores (writes hart (next_of hart) rd (sign_extended width old)) (x_of hart rs1)
     (low_bytes (amo_of op width old (x_of hart rs2 % 2 ^ width)) (atomic_size wide))
 
 -- what an instruction is to do: a trap with its cause and its mtval; no access; the read of a

@@ -1,5 +1,6 @@
 //! What the instructions that access memory are to do.
 
+ghost use Rattle.elf_image.specs.Images.{loaded_of};
 ghost use Rattle.std.specs.Prelude.{◌≡◌, ◌≤◌, true};
 ghost use Rattle.rv_step.specs.Plans.{access_fault, accessed, doing_seen};
 ghost use Rattle.rv_step.specs.Steps.{load, store, lr, sc, amo};
@@ -24,7 +25,7 @@ const OF_STORES: Causes = Causes {
 pub fn loading(image: &Image, must_align: bool, insn: Insn, addr: u64, len: u8) -> What
     requires { (1 ≤ len) × (len ≤ 8) }
     ensures { doing_seen result
-        ≡ accessed (access_fault image.now must_align MISALIGNED_LOAD LOAD_FAULT addr len) addr (load insn addr len) }
+        ≡ accessed (access_fault (loaded_of image.now) must_align MISALIGNED_LOAD LOAD_FAULT addr len) addr (load insn addr len) }
 {
     match access(image, must_align, OF_LOADS, addr, len) {
         Ok(extent) => What::Load(insn, extent),
@@ -36,7 +37,7 @@ pub fn loading(image: &Image, must_align: bool, insn: Insn, addr: u64, len: u8) 
 pub fn storing(image: &Image, must_align: bool, insn: Insn, addr: u64, len: u8) -> What
     requires { (1 ≤ len) × (len ≤ 8) }
     ensures { doing_seen result
-        ≡ accessed (access_fault image.now must_align MISALIGNED_STORE STORE_FAULT addr len) addr (store insn addr len) }
+        ≡ accessed (access_fault (loaded_of image.now) must_align MISALIGNED_STORE STORE_FAULT addr len) addr (store insn addr len) }
 {
     match access(image, must_align, OF_STORES, addr, len) {
         Ok(extent) => What::Store(insn, extent),
@@ -48,7 +49,7 @@ pub fn storing(image: &Image, must_align: bool, insn: Insn, addr: u64, len: u8) 
 pub fn reserving(image: &Image, insn: Insn, addr: u64, len: u8) -> What
     requires { (1 ≤ len) × (len ≤ 8) }
     ensures { doing_seen result
-        ≡ accessed (access_fault image.now true MISALIGNED_LOAD LOAD_FAULT addr len) addr (lr insn addr len) }
+        ≡ accessed (access_fault (loaded_of image.now) true MISALIGNED_LOAD LOAD_FAULT addr len) addr (lr insn addr len) }
 {
     match access(image, true, OF_LOADS, addr, len) {
         Ok(extent) => What::Lr(insn, extent),
@@ -60,7 +61,7 @@ pub fn reserving(image: &Image, insn: Insn, addr: u64, len: u8) -> What
 pub fn storing_reserved(image: &Image, insn: Insn, addr: u64, len: u8) -> What
     requires { (1 ≤ len) × (len ≤ 8) }
     ensures { doing_seen result
-        ≡ accessed (access_fault image.now true MISALIGNED_STORE STORE_FAULT addr len) addr (sc insn addr len) }
+        ≡ accessed (access_fault (loaded_of image.now) true MISALIGNED_STORE STORE_FAULT addr len) addr (sc insn addr len) }
 {
     match access(image, true, OF_STORES, addr, len) {
         Ok(extent) => What::Sc(insn, extent),
@@ -72,7 +73,7 @@ pub fn storing_reserved(image: &Image, insn: Insn, addr: u64, len: u8) -> What
 pub fn changing(image: &Image, insn: Insn, addr: u64, len: u8) -> What
     requires { (1 ≤ len) × (len ≤ 8) }
     ensures { doing_seen result
-        ≡ accessed (access_fault image.now true MISALIGNED_STORE STORE_FAULT addr len) addr (amo insn addr len) }
+        ≡ accessed (access_fault (loaded_of image.now) true MISALIGNED_STORE STORE_FAULT addr len) addr (amo insn addr len) }
 {
     match access(image, true, OF_STORES, addr, len) {
         Ok(extent) => What::Amo(insn, extent),

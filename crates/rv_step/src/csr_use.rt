@@ -1,27 +1,19 @@
 //! What CSR instructions read and write.
 
 ghost use Rattle.std.specs.Prelude.{◌≡◌};
-ghost use Rattle.rv_step.specs.CsrUse.{writes_csr, is_legal_csr, is_counter, new_csr};
+ghost use Rattle.rv_step.specs.CsrUse.{is_legal_csr, is_counter, new_csr};
 
-use csr_file::{CYCLE, CsrRead, Csrs, TIME};
+use csr_file::{CsrRead, Csrs};
 use rv_decode::CsrOp;
-
-/// Whether the instruction writes the CSR.
-pub fn is_write(op: CsrOp, source: u8) -> bool
-    ensures { result ≡ writes_csr op source }
-{
-    match op {
-        CsrOp::Rw | CsrOp::Rwi => true,
-        CsrOp::Rs | CsrOp::Rc | CsrOp::Rsi | CsrOp::Rci => source != 0,
-    }
-}
+use rv_decode::registers::writes_csr;
+use tandem_base::csrs::{CYCLE, TIME};
 
 /// Whether the CSR is there, and may be written if it is.
 pub fn is_legal(csrs: &Csrs, op: CsrOp, source: u8, number: u16) -> bool
     ensures { result ≡ is_legal_csr op source number }
 {
     let read_only = number / 0x400 % 4 == 3;
-    csrs.read(number) != CsrRead::Absent && !(is_write(op, source) && read_only)
+    csrs.read(number) != CsrRead::Absent && !(writes_csr(op, source) && read_only)
 }
 
 /// Whether it is a counter whose value is known outside alone.

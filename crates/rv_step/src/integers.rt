@@ -1,7 +1,7 @@
 //! The results of the integer instructions.
 
 ghost use Rattle.std.specs.Prelude.{◌≡◌, ◌<◌};
-ghost use Rattle.rv_step.specs.Integers.{alu_of, with_register, is_taken, less_signed, low_word, sra_of, without_low_bit};
+ghost use Rattle.rv_step.specs.Integers.{alu_result, with_register, is_taken, less_signed, low_word, sra_of, without_low_bit};
 
 use rv_decode::{BranchOp, ImmOp, RegOp};
 use tandem_base::{div, div32, divu, divu32, mulh, mulhsu, mulhu, rem, rem32, remu, remu32, sext};
@@ -60,7 +60,7 @@ pub fn even(address: u64) -> u64
 
 /// What an operation on two registers gives.
 pub fn alu(op: RegOp, a: u64, b: u64) -> u64
-    ensures { result ≡ alu_of op a b }
+    ensures { result ≡ alu_result op a b }
 {
     match op {
         RegOp::Add => a.wrapping_add(b),

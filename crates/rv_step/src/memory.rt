@@ -1,9 +1,10 @@
 //! The values that loads, stores and atomic instructions read and write.
 
+ghost use Rattle.elf_image.specs.Images.{loaded_of};
 ghost use Rattle.std.specs.Prelude.{◌≡◌, ◌<◌, ◌≤◌, ◌^◌, ◌%◌, MatchResult, Some, None};
 ghost use Rattle.rv_step.specs.Memory.{load_size, store_size, atomic_size, atomic_width, loaded, low_bytes, amo_of};
 ghost use Rattle.rv_step.specs.Plans.{access_fault, has_bytes};
-ghost use Rattle.tandem_base.specs.Signs.{sext_of};
+ghost use Rattle.tandem_base.specs.Signs.{sign_extended};
 
 use crate::integers::{is_less, is_less32, low};
 use elf_image::Image;
@@ -103,14 +104,14 @@ fn amo32(op: AmoOp, a: u32, b: u32) -> u32
 
 /// What LR gives of the number that it reads: the W form sign-extends.
 pub fn lr_value(wide: bool, number: u64) -> u64
-    ensures { result ≡ sext_of number (atomic_width wide) }
+    ensures { result ≡ sign_extended (atomic_width wide) number }
 {
     if wide { number } else { sext(number, 32) }
 }
 
 /// What an atomic operation gives of the number that it reads.
 pub fn amo_value(wide: bool, number: u64) -> u64
-    ensures { result ≡ sext_of (number % 2 ^ atomic_width wide) (atomic_width wide) }
+    ensures { result ≡ sign_extended (atomic_width wide) (number % 2 ^ atomic_width wide) }
 {
     if wide { number } else { sext(number, 32) }
 }
@@ -144,8 +145,8 @@ pub fn access(
 ) -> Result<Extent, u8>
     requires { (1 ≤ len) × (len ≤ 8) }
     ensures { MatchResult result
-        (λ extent. (access_fault image.now must_align causes.misaligned causes.fault addr len ≡ None) × (extent.addr ≡ addr) × (extent.len ≡ len))
-        (λ cause. access_fault image.now must_align causes.misaligned causes.fault addr len ≡ Some cause) }
+        (λ extent. (access_fault (loaded_of image.now) must_align causes.misaligned causes.fault addr len ≡ None) × (extent.addr ≡ addr) × (extent.len ≡ len))
+        (λ cause. access_fault (loaded_of image.now) must_align causes.misaligned causes.fault addr len ≡ Some cause) }
 {
     if must_align && addr % u64::from(len) != 0 {
         return Err(causes.misaligned);
@@ -162,7 +163,7 @@ pub fn access(
 
 /// Whether the image has every byte of the extent.
 fn holds(image: &Image, extent: Extent) -> bool
-    ensures { result ≡ has_bytes image.now extent.addr extent.len }
+    ensures { result ≡ has_bytes (loaded_of image.now) extent.addr extent.len }
 {
     image.holds(&extent)
 }

@@ -8,13 +8,13 @@ use self::control::{JUMPS, TRAPS};
 use self::integers::RESULTS;
 use self::state::{ACCESSES, CSRS};
 use crate::{Config, Effect, Hart, Outside, What};
-use csr_file::{MEPC, MSTATUS, MTVEC};
 use elf_image::{Image, ImageFault, Ram};
 use msg_frames::{CsrValue, Poke, RdValue, Target};
 use std::alloc::Global;
 use std::process::Abort;
 use std::test::Fail;
 use tandem_base::Bytes8;
+use tandem_base::csrs::{MEPC, MSTATUS, MTVEC};
 
 const BASE: u64 = 0x8000_0000;
 

@@ -1,5 +1,6 @@
 //! What the instruction at a hart's pc is to do.
 
+ghost use Rattle.elf_image.specs.Images.{loaded_of};
 ghost use Rattle.std.specs.Prelude.{◌≡◌, ℕ, true};
 ghost use Rattle.rv_decode.specs.Decoding.{decoding};
 ghost use Rattle.rv_decode.specs.Listing.{IsInsn};
@@ -22,7 +23,7 @@ impl Hart {
     /// Fetches and decodes the word at the pc, and finds the trap that it raises or the bytes that
     /// it accesses.
     pub fn plan(&self, image: &Image, config: &Config) -> Plan
-        ensures value { plan_seen result ≡ plan_of self.now image.now config.now }
+        ensures value { plan_seen result ≡ plan_of self.now (loaded_of image.now) config.now }
         ensures suits { Suits self.now (doing_seen result.what) }
     {
         match image.word(self.pc) {
@@ -43,7 +44,7 @@ impl Hart {
     #[tactic(auto, using(crate::proofs::Suited::suits_by))]
     fn what(&self, image: &Image, config: &Config, word: u32) -> What
         ensures value { doing_seen result
-            ≡ doing_word self.now image.now config.now word (decoding word) }
+            ≡ doing_word self.now (loaded_of image.now) config.now word (decoding word) }
         ensures suits { Suits self.now (doing_seen result) }
     {
         match decode(word) {
@@ -54,7 +55,7 @@ impl Hart {
 
     fn what_of(&self, image: &Image, config: &Config, word: u32, insn: Insn) -> What
         requires { IsInsn insn }
-        ensures { doing_seen result ≡ doing_of self.now image.now config.now word insn }
+        ensures { doing_seen result ≡ doing_of self.now (loaded_of image.now) config.now word insn }
     {
         match insn {
             Insn::Jal { imm, .. } => jump(insn, self.pc.wrapping_add_signed(imm)),
@@ -96,7 +97,7 @@ impl Hart {
     fn what_accessed(&self, image: &Image, config: &Config, insn: Insn) -> What
         requires fits { IsInsn insn }
         requires accesses { accesses insn ≡ true }
-        ensures { (word : ℕ) → doing_seen result ≡ doing_of self.now image.now config.now word insn }
+        ensures { (word : ℕ) → doing_seen result ≡ doing_of self.now (loaded_of image.now) config.now word insn }
     {
         match insn {
             Insn::Load { op, rs1, imm, .. } => {

@@ -6,11 +6,13 @@ ghost use Rattle.rv_step.specs.CsrUse.{is_legal_csr, old_csr, operand_of};
 ghost use Rattle.rv_step.specs.Steps.{goes, writes, traps, returns, csr_value, csr_done};
 
 use super::Hart;
-use crate::csr_use::{combined, is_write};
+use crate::csr_use::combined;
 use crate::effect::Effect;
-use csr_file::{CsrRead, CsrWrite, MCAUSE, MEPC, MSTATUS, MTVAL};
+use csr_file::{CsrRead, CsrWrite};
 use msg_frames::{CsrList, CsrValue, RdValue};
 use rv_decode::CsrOp;
+use rv_decode::registers::writes_csr;
+use tandem_base::csrs::{MCAUSE, MEPC, MSTATUS, MTVAL};
 
 impl Hart {
     /// The address of the word behind the instruction.
@@ -118,7 +120,7 @@ impl Hart {
         let value = combined(op, old, self.operand(op, source));
         let next = self.next();
         let mut effect = self.write(next, rd, old);
-        if is_write(op, source) {
+        if writes_csr(op, source) {
             match self.csrs.write(number, value) {
                 CsrWrite::Done(value) => effect.csrs.push(CsrValue { number, value }),
                 CsrWrite::ReadOnly | CsrWrite::Absent => unreachable!(),
