@@ -1,11 +1,12 @@
 -- The frame of a message is read again.
-use Rattle.std.proofs.Common.{◌≡◌, ℕ, suc, ◌+◌, ◌%◌, ◌^◌, ◌≤◌, ◌<◌, Bool, true, false, List, [], ◌∷◌, ◌++◌, length, take, get_or, add-zero, zero-add, refl, ◌∙◌, ap, arith, Option, Some, Result, Ok, length-append}
+use Rattle.std.proofs.Common.{◌≡◌, ℕ, suc, ◌+◌, ◌%◌, ◌^◌, ◌≤◌, ◌<◌, Bool, true, false, List, [], ◌∷◌, ◌++◌, length, take, get_or, add-zero, zero-add, refl, ◌∙◌, ap, arith, Option, Some, Result, Ok, length-append, None}
 use Rattle.std.specs.Prelude.{◌==◌, nat_lt, nat_le, ◌&&◌, not}
 use Rattle.std.specs.Int.{w16, w32, w64, to_le_bytes, from_le_bytes}
 use Rattle.std.proofs.lemmas.Bool.{eq-eqb, lt-ltb, le-leb, and_from, cond-true, cond-false}
 use Rattle.std.proofs.lemmas.Bool.Decides.{nat_tests}
 use Rattle.std.proofs.lemmas.List.{take_all}
 use Rattle.std.proofs.lemmas.Nat.{from_le_bytes-to_le_bytes_2, from_le_bytes-to_le_bytes_4, from_le_bytes-to_le_bytes_8}
+use Rattle.tandem_base.specs.FirstFault.{◌or_else◌, unless}
 use Rattle.msg_frames.specs.declared.message.FrameFault.{FrameFault}
 use Rattle.msg_frames.specs.declared.message.Form.{Form}
 use Rattle.msg_frames.specs.declared.message.Form.TheVariants as form
@@ -22,8 +23,8 @@ use Rattle.msg_frames.specs.declared.kinds.Kind.{Kind}
 use Rattle.msg_frames.specs.declared.kinds.Kind.TheVariants as kind
 use Rattle.msg_frames.specs.Fields.{byte_in, u16_in, u64_in}
 use Rattle.msg_frames.specs.Kinds.{code_of, kind_of, kind_coded, has_length}
-use Rattle.msg_frames.specs.Frames.{body_bytes, piece_bytes, head_bytes, frame, FitsBody, HoldsBody, FitsPiece, HoldsPiece, IsPokedCsr, mask_bit}
-use Rattle.msg_frames.specs.Reading.{Checked, ◌>>◌, rule, zeros, is_stray, unmasked_zeros, is_poked_csr, checks, piece_checks, head_in, piece_in, body_in, message_in, is_whole, reading_of, reading}
+use Rattle.msg_frames.specs.Frames.{body_bytes, piece_bytes, head_bytes, frame, FitsBody, HoldsBody, FitsPiece, HoldsPiece, mask_bit, is_poked_csr}
+use Rattle.msg_frames.specs.Reading.{rule, zeros, is_stray, unmasked_zeros, field_fault, piece_fault, head_in, piece_in, body_in, message_in, is_whole, reading_of, reading}
 
 -- ---- what is whole, coded and checked is read
 
@@ -42,30 +43,30 @@ code_coded kind.Squash = refl
 code_coded kind.End = refl
 
 pub reading_by : (which : Kind) (bytes : List ℕ) (message : Message) → length bytes ≡ u16_in 0 bytes + 2 → 18 ≤ u16_in 0 bytes → u16_in 0 bytes ≤ 512
-    → byte_in 2 bytes ≡ code_of which → has_length which (u16_in 0 bytes) ≡ true → checks which bytes ≡ Ok tt → message_in which bytes ≡ message
+    → byte_in 2 bytes ≡ code_of which → has_length which (u16_in 0 bytes) ≡ true → field_fault which bytes ≡ None → message_in which bytes ≡ message
     → reading bytes ≡ Ok message
 unfolding reading reading_of
 reading_by which bytes message size low high code allowed checked value =
     cond-true (is_whole bytes) (reading_of (kind_coded (byte_in 2 bytes)) bytes) _ (whole_from (length bytes) (u16_in 0 bytes) size low high)
     ∙ ap (λ (o : Option Kind). reading_of o bytes) (ap kind_coded code ∙ code_coded which)
-    ∙ cond-true (has_length which (u16_in 0 bytes)) (checks which bytes >> Ok (message_in which bytes)) _ allowed
-    ∙ ap (λ (c : Checked). c >> Ok (message_in which bytes)) checked ∙ ap Ok value
+    ∙ cond-true (has_length which (u16_in 0 bytes)) (unless (field_fault which bytes) (message_in which bytes)) _ allowed
+    ∙ ap (λ (c : Option FrameFault). unless c (message_in which bytes)) checked ∙ ap Ok value
 
 -- ---- checks that find nothing
 
-pub then_from : {A : Type 0} (first : Checked) (next : Result A FrameFault) (x : A) → first ≡ Ok tt → next ≡ Ok x → first >> next ≡ Ok x
-then_from first next x e f = ap (λ (c : Checked). c >> next) e ∙ f
+pub then_from : (first next : Option FrameFault) → first ≡ None → next ≡ None → first or_else next ≡ None
+then_from first next e f = ap (λ (c : Option FrameFault). c or_else next) e ∙ f
 
-pub rule_from : (form : Form) (at : ℕ) (holds : Bool) → holds ≡ true → rule form at holds ≡ Ok tt
+pub rule_from : (form : Form) (at : ℕ) (holds : Bool) → holds ≡ true → rule form at holds ≡ None
 rule_from form at holds e = ap (rule form at) e
 
-pub zero_from : (at n : ℕ) → n ≡ 0 → zeros at (n ∷ []) ≡ Ok tt
+pub zero_from : (at n : ℕ) → n ≡ 0 → zeros at (n ∷ []) ≡ None
 zero_from at n e = rw e refl
 
-pub zeros_u32 : (at n : ℕ) → n ≡ 0 → zeros at (to_le_bytes w32 n) ≡ Ok tt
+pub zeros_u32 : (at n : ℕ) → n ≡ 0 → zeros at (to_le_bytes w32 n) ≡ None
 zeros_u32 at n e = rw e refl
 
-pub zeros_u64 : (at n : ℕ) → n ≡ 0 → zeros at (to_le_bytes w64 n) ≡ Ok tt
+pub zeros_u64 : (at n : ℕ) → n ≡ 0 → zeros at (to_le_bytes w64 n) ≡ None
 zeros_u64 at n e = rw e refl
 
 stray_from : (bit byte : ℕ) → (bit ≡ 0 → byte ≡ 0) → (bit == 0 && not (byte == 0)) ≡ false
@@ -91,7 +92,7 @@ head_again message t g = record_head message.head.hart (u64_in 4 (frame message)
 pub record Again (head : Head) (body : Body) : Type 0 where
   pub few : length (body_bytes body) ≤ 494
   pub allowed : has_length (kind_of body) (18 + length (body_bytes body)) ≡ true
-  pub checked : checks (kind_of body) (frame (record { head = head; body = body })) ≡ Ok tt
+  pub checked : field_fault (kind_of body) (frame (record { head = head; body = body })) ≡ None
   pub value : body_in (kind_of body) (frame (record { head = head; body = body })) ≡ body
 
 -- the message of these parts
@@ -102,18 +103,15 @@ pub again_open : (head : Head) (info : OpenInfo) → FitsBody head (body.Open in
 again_open head info fits holds = record {
   few = omega arith;
   allowed = refl;
-  checked = then_from (zeros 3 (head.hart ∷ [])) _ tt (zero_from 3 head.hart fits.0) (then_from (zeros 12 (to_le_bytes w64 head.tag)) _ tt (zeros_u64 12 head.tag fits.1)
-      (then_from (rule form.Field 20 (info.version == 1)) _ tt (rule_from _ _ _ (eq-eqb info.version 1 fits.2.0))
-      (then_from (rule form.Field 21 (nat_le 1 info.harts && nat_le info.harts 16)) _ tt (rule_from _ _ _ (and_from _ _ (le-leb 1 info.harts fits.2.1) (le-leb info.harts 16 fits.2.2)))
-      (then_from (rule form.Reserved 22 (nat_lt info.flags 4)) _ tt (rule_from _ _ _ (lt-ltb info.flags 4 fits.2.3))
-      (then_from (zeros 23 (info.granule ∷ [])) _ tt (zero_from 23 info.granule fits.2.4) (zeros_u32 24 info.skew fits.2.5))))));
+  checked = then_from (zeros 3 (head.hart ∷ [])) _ (zero_from 3 head.hart fits.0) (then_from (zeros 12 (to_le_bytes w64 head.tag)) _ (zeros_u64 12 head.tag fits.1)
+      (then_from (rule form.Field 20 (info.version == 1)) _ (rule_from _ _ _ (eq-eqb info.version 1 fits.2.0))
+      (then_from (rule form.Field 21 (nat_le 1 info.harts && nat_le info.harts 16)) _ (rule_from _ _ _ (and_from _ _ (le-leb 1 info.harts fits.2.1) (le-leb info.harts 16 fits.2.2)))
+      (then_from (rule form.Reserved 22 (nat_lt info.flags 4)) _ (rule_from _ _ _ (lt-ltb info.flags 4 fits.2.3))
+      (then_from (zeros 23 (info.granule ∷ [])) _ (zero_from 23 info.granule fits.2.4) (zeros_u32 24 info.skew fits.2.5))))));
   value = ap (λ (skew : ℕ). body.Open (record info { skew = skew })) (from_le_bytes-to_le_bytes_4 info.skew holds.4);
 }
 
 -- ---- Poke
-
-poked_from : (number : ℕ) → IsPokedCsr number → is_poked_csr number ≡ true
-poked_from number h = grind (arith, nat_tests)
 
 same_poke : (target target' : Target) (value value' : ℕ) → target ≡ target' → value ≡ value'
     → body.Poke (record { target = target; value = value }) ≡ body.Poke (record { target = target'; value = value' })
@@ -126,7 +124,7 @@ again_poke head Pc value fits holds =
     record {
       few = omega arith;
       allowed = refl;
-      checked = then_from (zeros 12 (to_le_bytes w64 head.tag)) _ tt (zeros_u64 12 head.tag fits.0)
+      checked = then_from (zeros 12 (to_le_bytes w64 head.tag)) _ (zeros_u64 12 head.tag fits.0)
           (rule_from form.Field 24 _ (eq-eqb (u64_in 24 (frame (of head (body.Poke (record { target = Pc; value = value })))) % 4) 0 (ap (λ n. n % 4) same ∙ fits.1)));
       value = ap (λ (v : ℕ). body.Poke (record { target = Pc; value = v })) same;
     }
@@ -136,7 +134,7 @@ again_poke head (X number) value fits holds =
     record {
       few = omega arith;
       allowed = refl;
-      checked = then_from (zeros 12 (to_le_bytes w64 head.tag)) _ tt (zeros_u64 12 head.tag fits.0)
+      checked = then_from (zeros 12 (to_le_bytes w64 head.tag)) _ (zeros_u64 12 head.tag fits.0)
           (rule_from form.Field 22 _ (ap (λ n. nat_le 1 n && nat_le n 31) of_number ∙ and_from _ _ (le-leb 1 number fits.1.0) (le-leb number 31 fits.1.1)));
       value = same_poke (X (number % 256)) (X number) _ value (ap X low) (from_le_bytes-to_le_bytes_8 value holds.1);
     }
@@ -145,8 +143,8 @@ again_poke head (Csr number) value fits holds =
     record {
       few = omega arith;
       allowed = refl;
-      checked = then_from (zeros 12 (to_le_bytes w64 head.tag)) _ tt (zeros_u64 12 head.tag fits.0)
-          (rule_from form.Field 22 _ (ap is_poked_csr of_number ∙ poked_from number fits.1));
+      checked = then_from (zeros 12 (to_le_bytes w64 head.tag)) _ (zeros_u64 12 head.tag fits.0)
+          (rule_from form.Field 22 _ (ap is_poked_csr of_number ∙ fits.1));
       value = same_poke (Csr (from_le_bytes w16 (to_le_bytes w16 number))) (Csr number) _ value (ap Csr of_number) (from_le_bytes-to_le_bytes_8 value holds.1);
     }
 
@@ -155,7 +153,7 @@ again_poke head (Csr number) value fits holds =
 pub record AgainPiece (bytes : List ℕ) (piece : Piece) : Type 0 where
   pub few : length (piece_bytes piece) ≤ 17
   pub low : 10 ≤ length (piece_bytes piece)
-  pub checked : piece_checks bytes ≡ Ok tt
+  pub checked : piece_fault bytes ≡ None
   pub value : piece_in bytes ≡ piece
 
 pub again_piece : (size code : ℕ) (head : Head) (piece : Piece) → size ≡ 18 + length (piece_bytes piece) → FitsPiece piece → HoldsPiece piece
@@ -172,7 +170,7 @@ again_piece size code head piece is fits holds =
 
 -- ---- Write
 
-pub unmasked_from : (mask k : ℕ) (bytes : List ℕ) → ((i : ℕ) → i < length bytes → mask_bit mask (k + i) ≡ 0 → get_or bytes i 0 ≡ 0) → unmasked_zeros mask k bytes ≡ Ok tt
+pub unmasked_from : (mask k : ℕ) (bytes : List ℕ) → ((i : ℕ) → i < length bytes → mask_bit mask (k + i) ≡ 0 → get_or bytes i 0 ≡ 0) → unmasked_zeros mask k bytes ≡ None
 unmasked_from mask k [] h = refl
 unmasked_from mask k (byte ∷ bytes) h =
     cond-false (is_stray mask k byte) _ (unmasked_zeros mask (k + 1) bytes) (stray_from (mask_bit mask k) byte (λ outside. h 0 (omega arith) (rw add-zero outside)))
@@ -191,8 +189,8 @@ again_write head write fits holds =
     record {
       few = omega arith;
       allowed = ap (λ n. 18 + n == 98) size;
-      checked = then_from (zeros 12 (to_le_bytes w64 head.tag)) _ tt (zeros_u64 12 head.tag fits.0)
-          (then_from (rule form.Field 20 (from_le_bytes w64 (to_le_bytes w64 write.line) % 64 == 0)) _ tt
+      checked = then_from (zeros 12 (to_le_bytes w64 head.tag)) _ (zeros_u64 12 head.tag fits.0)
+          (then_from (rule form.Field 20 (from_le_bytes w64 (to_le_bytes w64 write.line) % 64 == 0)) _
           (rule_from _ _ _ (eq-eqb (from_le_bytes w64 (to_le_bytes w64 write.line) % 64) 0 (ap (λ n. n % 64) line ∙ fits.1.0)))
           (ap (λ m. unmasked_zeros m 0 (take 64 write.bytes)) mask ∙ ap (unmasked_zeros write.mask 0) all
           ∙ unmasked_from write.mask 0 write.bytes (λ i below outside. fits.1.1 i (omega (arith, holds.2)) (rw zero-add at outside))));

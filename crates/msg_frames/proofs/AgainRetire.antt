@@ -13,7 +13,7 @@ use Rattle.msg_frames.specs.declared.message.RdValue.{RdValue}
 use Rattle.msg_frames.specs.declared.message.Retire.{Retire}
 use Rattle.msg_frames.specs.declared.message.Body.TheVariants as body
 use Rattle.msg_frames.specs.Frames.{retire_bytes, csr_bytes, flag, rd_number, rd_value, FitsBody, HoldsBody, HoldsCsr}
-use Rattle.msg_frames.specs.Reading.{rule, zeros, csrs_in}
+use Rattle.msg_frames.specs.Reading.{cause_fault, rd_fault, value_fault, rule, zeros, csrs_in}
 use Rattle.msg_frames.proofs.Again.{Again, then_from, rule_from}
 
 pub length-csrs : (csrs : List CsrValue) → length (flat_map csr_bytes csrs) ≡ 10 * length csrs
@@ -56,16 +56,16 @@ rd_bit None (Some rd) = refl
 rd_bit (Some cause) None = refl
 rd_bit (Some cause) (Some rd) = refl
 
-cause_from : (trapped : Bool) (trap : Option ℕ) → trapped ≡ is_some trap → cond trapped (Ok tt) (zeros 41 (unwrap_or trap 0 ∷ [])) ≡ Ok tt
+cause_from : (trapped : Bool) (trap : Option ℕ) → trapped ≡ is_some trap → cond trapped None (zeros 41 (unwrap_or trap 0 ∷ [])) ≡ None
 cause_from trapped None e = rw e refl
 cause_from trapped (Some cause) e = rw e refl
 
 rd_from : (wrote : Bool) (rd : Option RdValue) → wrote ≡ is_some rd → IfSome rd (λ r. (1 ≤ r.number) × (r.number ≤ 31))
-    → cond wrote (rule form.Field 42 (nat_le 1 (rd_number rd) && nat_le (rd_number rd) 31)) (zeros 42 (rd_number rd ∷ [])) ≡ Ok tt
+    → cond wrote (rule form.Field 42 (nat_le 1 (rd_number rd) && nat_le (rd_number rd) 31)) (zeros 42 (rd_number rd ∷ [])) ≡ None
 rd_from wrote None e fits = rw e refl
 rd_from wrote (Some rd) e fits = rw e (rule_from form.Field 42 _ (and_from _ _ (le-leb 1 rd.number fits.0) (le-leb rd.number 31 fits.1)))
 
-value_from : (wrote : Bool) (rd : Option RdValue) → wrote ≡ is_some rd → cond wrote (Ok tt) (zeros 44 (to_le_bytes w64 (rd_value rd))) ≡ Ok tt
+value_from : (wrote : Bool) (rd : Option RdValue) → wrote ≡ is_some rd → cond wrote None (zeros 44 (to_le_bytes w64 (rd_value rd))) ≡ None
 value_from wrote None e = rw e refl
 value_from wrote (Some rd) e = rw e refl
 
@@ -94,6 +94,7 @@ same_retire : (pc pc' word word' next next' : ℕ) (trap trap' : Option ℕ) (rd
 same_retire pc pc' word word' next next' trap trap' rd rd' csrs csrs' p w n t r c = rw (p, w, n, t, r, c) refl
 
 pub again_retire : (head : Head) (retire : Retire) → FitsBody head (body.Retire retire) → HoldsBody (body.Retire retire) → Again head (body.Retire retire)
+unfolding cause_fault rd_fault value_fault
 again_retire head retire fits holds =
     let size = length_retire retire in
     let few : length retire.csrs ≤ 4 = fits.1 in
@@ -104,11 +105,11 @@ again_retire head retire fits holds =
     record {
       few = omega arith;
       allowed = retire_allowed (18 + length (retire_bytes retire)) (length retire.csrs) (omega arith) few;
-      checked = then_from (rule form.Reserved 40 (nat_lt (flag 1 retire.trap + flag 2 retire.rd) 4)) _ tt (rule_from _ _ _ (few_flags retire.trap retire.rd))
-          (then_from (cond ((flag 1 retire.trap + flag 2 retire.rd) % 2 == 1) (Ok tt) (zeros 41 (unwrap_or retire.trap 0 ∷ []))) _ tt (cause_from _ retire.trap trapped)
+      checked = then_from (rule form.Reserved 40 (nat_lt (flag 1 retire.trap + flag 2 retire.rd) 4)) _ (rule_from _ _ _ (few_flags retire.trap retire.rd))
+          (then_from (cond ((flag 1 retire.trap + flag 2 retire.rd) % 2 == 1) None (zeros 41 (unwrap_or retire.trap 0 ∷ []))) _ (cause_from _ retire.trap trapped)
           (then_from (cond ((flag 1 retire.trap + flag 2 retire.rd) / 2 % 2 == 1) (rule form.Field 42 (nat_le 1 (rd_number retire.rd) && nat_le (rd_number retire.rd) 31)) (zeros 42 (rd_number retire.rd ∷ [])))
-          _ tt (rd_from _ retire.rd wrote fits.0)
-          (then_from (rule form.Field 43 (50 + 10 * length retire.csrs == from_le_bytes w16 (to_le_bytes w16 (18 + length (retire_bytes retire))))) _ tt
+          _ (rd_from _ retire.rd wrote fits.0)
+          (then_from (rule form.Field 43 (50 + 10 * length retire.csrs == from_le_bytes w16 (to_le_bytes w16 (18 + length (retire_bytes retire))))) _
           (rule_from _ _ _ (eq-eqb (50 + 10 * length retire.csrs) (from_le_bytes w16 (to_le_bytes w16 (18 + length (retire_bytes retire)))) (omega arith)))
           (value_from _ retire.rd wrote))));
       value = same_retire _ retire.pc _ retire.word _ retire.next _ retire.trap _ retire.rd _ retire.csrs

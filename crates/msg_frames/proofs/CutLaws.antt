@@ -1,8 +1,8 @@
 -- The laws of a cut.
-use Rattle.std.proofs.Common.{◌≡◌, ℕ, zero, suc, ◌+◌, ◌-◌, ◌≤◌, true, false, cond, List, [], ◌∷◌, ◌++◌, length, refl, sym, ◌∙◌, ap, arith, Ok, Err, length-append}
-use Rattle.std.specs.Prelude.{nat_lt, nat_le}
+use Rattle.std.proofs.Common.{◌≡◌, ℕ, zero, suc, ◌+◌, ◌-◌, ◌≤◌, true, false, cond, List, [], ◌∷◌, ◌++◌, length, refl, sym, ◌∙◌, ap, arith, Ok, Err, length-append, ◌<◌, take, drop, inl, inr, length-take-le, take-append-drop}
+use Rattle.std.specs.Prelude.{nat_lt, nat_le, ◌&&◌}
 use Rattle.std.specs.Int.{w16, from_le_bytes}
-use Rattle.std.proofs.lemmas.Bool.{lt-ltb, le-ltb, cond-true, cond-false, cond_both, and_from, le-leb}
+use Rattle.std.proofs.lemmas.Bool.{lt-ltb, le-ltb, cond-true, cond-false, cond_both, and_from, le-leb, and_parts, leb-true}
 use Rattle.std.proofs.lemmas.List.{take_at, take-append-le}
 use Rattle.msg_frames.specs.declared.message.Message.{Message}
 use Rattle.msg_frames.specs.declared.message.FrameFault.{FrameFault}
@@ -10,7 +10,8 @@ use Rattle.msg_frames.specs.Fields.{u16_in}
 use Rattle.msg_frames.specs.Reading.{reading, is_length}
 use Rattle.msg_frames.specs.Cut.{End, Bad, Short, needed, is_end, put_front, cut_read, cut_front, cut_after, cut}
 use Rattle.msg_frames.specs.Frames.{frame, Fits, InRange}
-use Rattle.msg_frames.specs.Taking.{IsWhole, IsShort}
+use Rattle.msg_frames.specs.Taking.{IsWhole, IsShort, size_at_front}
+use Rattle.msg_frames.proofs.Steps.{chosen}
 use Rattle.msg_frames.proofs.Ways.{reading_ok, whole_is}
 use Rattle.msg_frames.proofs.Frames.{reading_frame}
 use Rattle.msg_frames.proofs.Taking.{needed_more}
@@ -87,3 +88,21 @@ whole_read got message is =
 -- the frame of a message is a whole frame
 pub whole_frame : (message : Message) → Fits message → InRange message → IsWhole (frame message)
 whole_frame message fits holds = whole_read (frame message) message (reading_frame message fits holds)
+
+-- the frame that lies whole at the front is a whole frame
+pub front_whole : (bytes : List ℕ) (size : ℕ) → size ≡ size_at_front bytes → 0 < size
+    → (size ≤ length bytes) × IsWhole (take size bytes)
+front_whole bytes size e some =
+    elim (chosen (nat_le 20 (needed bytes) && nat_le (needed bytes) (length bytes)) (needed bytes) 0 size (sym e)) [
+      | inl way ↦
+          let parts = and_parts (nat_le 20 (needed bytes)) (nat_le (needed bytes) (length bytes)) way.0 in
+          let low = leb-true 20 (needed bytes) parts.0 in
+          let room = leb-true (needed bytes) (length bytes) parts.1 in
+          let is = way.1 in
+          let long : length (take size bytes) ≡ size = length-take-le size bytes (omega arith) in (
+            omega arith,
+            long ∙ sym is ∙ ap needed (sym (take-append-drop size bytes))
+                ∙ needed_front (take size bytes) (drop size bytes) (omega arith),
+          )
+      | inr way ↦ absurd (omega (arith, way.1))
+    ]

@@ -1,19 +1,20 @@
 -- What is read from the fields of a frame is spelled by them.
-use Rattle.std.proofs.Common.{◌≡◌, ℕ, ◌+◌, ◌%◌, ◌<◌, ◌≤◌, true, false, List, ◌∷◌, ◌++◌, length, take, drop, get_or, refl, sym, ◌∙◌, ap, arith, inl, inr, Ok, lit<, add-zero, zero-add, length-drop, length-take-le}
+use Rattle.std.proofs.Common.{◌≡◌, ℕ, ◌+◌, ◌%◌, ◌<◌, ◌≤◌, true, false, List, ◌∷◌, ◌++◌, length, take, drop, get_or, refl, sym, ◌∙◌, ap, arith, inl, inr, Ok, lit<, add-zero, zero-add, length-drop, length-take-le, None}
 use Rattle.std.specs.Prelude.{◌==◌, nat_lt, nat_le, ◌&&◌}
 use Rattle.std.proofs.lemmas.Bool.{eqb-true, eqb-false, leb-true, ltb-true, and_parts, cond-true, cond-false}
 use Rattle.std.proofs.lemmas.Bool.Decides.{nat_tests}
 use Rattle.std.specs.Int.{w16, w64, to_le_bytes}
 use Rattle.std.proofs.lemmas.List.{drop_all, take_all, get_or-take, get_or-drop}
+use Rattle.tandem_base.specs.FirstFault.{◌or_else◌}
 use Rattle.msg_frames.specs.declared.message.Target.TheVariants.{Pc, X, Csr}
 use Rattle.msg_frames.specs.declared.message.Form.TheVariants as form
 use Rattle.msg_frames.specs.declared.kinds.Kind.{Kind}
 use Rattle.msg_frames.specs.declared.kinds.Kind.TheVariants as kind
 use Rattle.msg_frames.specs.Fields.{byte_in, u16_in, u32_in, u64_in}
-use Rattle.msg_frames.specs.Frames.{AreBytes, body_bytes, piece_bytes, FitsBody, HoldsBody, target_code, target_number, FitsTarget, HoldsTarget, IsPokedCsr, FitsPiece, HoldsPiece}
-use Rattle.msg_frames.specs.Reading.{◌>>◌, rule, reserved, open_checks, poke_checks, target_checks, piece_checks, write_checks, end_checks, is_poked_csr, unmasked_zeros, head_in, target_in, piece_in, body_in}
+use Rattle.msg_frames.specs.Frames.{AreBytes, body_bytes, piece_bytes, FitsBody, HoldsBody, target_code, target_number, FitsTarget, HoldsTarget, FitsPiece, HoldsPiece, is_poked_csr}
+use Rattle.msg_frames.specs.Reading.{rule, reserved, open_fault, poke_fault, target_fault, piece_fault, write_fault, end_fault, unmasked_zeros, head_in, target_in, piece_in, body_in}
 use Rattle.msg_frames.proofs.Bytes.{AreBytes-take, AreBytes-drop, byte_off, u16_off, u32_off, u64_off, byte_below, u16_below, u32_below, u64_below}
-use Rattle.msg_frames.proofs.Steps.{then_ok, rule_ok, chosen, zeros_ok, unmasked_ok}
+use Rattle.msg_frames.proofs.Steps.{none_else, rule_ok, chosen, zeros_ok, unmasked_ok}
 
 -- the fields of a kind are spelled by the bytes behind the head, and keep their rules
 pub record Found (which : Kind) (bytes : List ℕ) : Type 0 where
@@ -27,33 +28,33 @@ first_byte at n bytes some = get_or-take n (drop at bytes) 0 0 some ∙ get_or-d
 
 -- ---- reserved fields
 
-pub reserved_byte : (at : ℕ) (bytes : List ℕ) → reserved at 1 bytes ≡ Ok tt → byte_in at bytes ≡ 0
+pub reserved_byte : (at : ℕ) (bytes : List ℕ) → reserved at 1 bytes ≡ None → byte_in at bytes ≡ 0
 reserved_byte at bytes e = sym (first_byte at 1 bytes (lit< tt)) ∙ zeros_ok at (take 1 (drop at bytes)) e 0
 
-reserved_u16 : (at : ℕ) (bytes : List ℕ) → reserved at 2 bytes ≡ Ok tt → u16_in at bytes ≡ 0
+reserved_u16 : (at : ℕ) (bytes : List ℕ) → reserved at 2 bytes ≡ None → u16_in at bytes ≡ 0
 reserved_u16 at bytes e =
     let zero_at = zeros_ok at (take 2 (drop at bytes)) e in omega (arith, zero_at 0, zero_at 1)
 
-reserved_u32 : (at : ℕ) (bytes : List ℕ) → reserved at 4 bytes ≡ Ok tt → u32_in at bytes ≡ 0
+reserved_u32 : (at : ℕ) (bytes : List ℕ) → reserved at 4 bytes ≡ None → u32_in at bytes ≡ 0
 reserved_u32 at bytes e =
     let zero_at = zeros_ok at (take 4 (drop at bytes)) e in
     omega (arith, zero_at 0, zero_at 1, zero_at 2, zero_at 3)
 
-pub reserved_u64 : (at : ℕ) (bytes : List ℕ) → reserved at 8 bytes ≡ Ok tt → u64_in at bytes ≡ 0
+pub reserved_u64 : (at : ℕ) (bytes : List ℕ) → reserved at 8 bytes ≡ None → u64_in at bytes ≡ 0
 reserved_u64 at bytes e =
     let zero_at = zeros_ok at (take 8 (drop at bytes)) e in
     omega (arith, zero_at 0, zero_at 1, zero_at 2, zero_at 3, zero_at 4, zero_at 5, zero_at 6, zero_at 7)
 
 -- ---- Open
 
-pub found_open : (bytes : List ℕ) → AreBytes bytes → length bytes ≡ 28 → open_checks bytes ≡ Ok tt → Found kind.Open bytes
+pub found_open : (bytes : List ℕ) → AreBytes bytes → length bytes ≡ 28 → open_fault bytes ≡ None → Found kind.Open bytes
 found_open bytes ranges len e =
-    let hart = then_ok (reserved 3 1 bytes) _ tt e in
-    let tag = then_ok (reserved 12 8 bytes) _ tt hart.1 in
-    let version = then_ok (rule form.Field 20 (byte_in 20 bytes == 1)) _ tt tag.1 in
-    let harts = then_ok (rule form.Field 21 (nat_le 1 (byte_in 21 bytes) && nat_le (byte_in 21 bytes) 16)) _ tt version.1 in
-    let flags = then_ok (rule form.Reserved 22 (nat_lt (byte_in 22 bytes) 4)) _ tt harts.1 in
-    let granule = then_ok (reserved 23 1 bytes) (reserved 24 4 bytes) tt flags.1 in
+    let hart = none_else (reserved 3 1 bytes) _ e in
+    let tag = none_else (reserved 12 8 bytes) _ hart.1 in
+    let version = none_else (rule form.Field 20 (byte_in 20 bytes == 1)) _ tag.1 in
+    let harts = none_else (rule form.Field 21 (nat_le 1 (byte_in 21 bytes) && nat_le (byte_in 21 bytes) 16)) _ version.1 in
+    let flags = none_else (rule form.Reserved 22 (nat_lt (byte_in 22 bytes) 4)) _ harts.1 in
+    let granule = none_else (reserved 23 1 bytes) (reserved 24 4 bytes) flags.1 in
     let some_harts = and_parts (nat_le 1 (byte_in 21 bytes)) (nat_le (byte_in 21 bytes) 16) (rule_ok _ _ _ harts.0) in
     record {
       spelled = byte_off bytes _ 20 21 (omega arith) refl (byte_off bytes _ 21 22 (omega arith) refl (byte_off bytes _ 22 23 (omega arith) refl
@@ -82,12 +83,9 @@ record FoundTarget (bytes : List ℕ) : Type 0 where
   pub fits : FitsTarget (target_in bytes) (u64_in 24 bytes)
   pub holds : HoldsTarget (target_in bytes)
 
-poked_csr : (number : ℕ) → is_poked_csr number ≡ true → IsPokedCsr number
-poked_csr number e = grind (arith, nat_tests)
-
-target_pc : (bytes : List ℕ) → (byte_in 20 bytes == 0) ≡ true → reserved 22 2 bytes >> rule form.Field 24 (u64_in 24 bytes % 4 == 0) ≡ Ok tt → FoundTarget bytes
+target_pc : (bytes : List ℕ) → (byte_in 20 bytes == 0) ≡ true → reserved 22 2 bytes or_else rule form.Field 24 (u64_in 24 bytes % 4 == 0) ≡ None → FoundTarget bytes
 target_pc bytes pc e =
-    let parts = then_ok (reserved 22 2 bytes) (rule form.Field 24 (u64_in 24 bytes % 4 == 0)) tt e in
+    let parts = none_else (reserved 22 2 bytes) (rule form.Field 24 (u64_in 24 bytes % 4 == 0)) e in
     let is : target_in bytes ≡ Pc = cond-true (byte_in 20 bytes == 0) Pc _ pc in
     record {
       code = rw is (eqb-true (byte_in 20 bytes) 0 pc);
@@ -97,7 +95,7 @@ target_pc bytes pc e =
     }
 
 target_x : (bytes : List ℕ) → AreBytes bytes → (byte_in 20 bytes == 0) ≡ false → (byte_in 20 bytes == 1) ≡ true
-    → rule form.Field 22 (nat_le 1 (u16_in 22 bytes) && nat_le (u16_in 22 bytes) 31) ≡ Ok tt → FoundTarget bytes
+    → rule form.Field 22 (nat_le 1 (u16_in 22 bytes) && nat_le (u16_in 22 bytes) 31) ≡ None → FoundTarget bytes
 target_x bytes ranges no_pc x e =
     let parts = and_parts (nat_le 1 (u16_in 22 bytes)) (nat_le (u16_in 22 bytes) 31) (rule_ok _ _ _ e) in
     let low = leb-true 1 (u16_in 22 bytes) parts.0 in
@@ -113,21 +111,21 @@ target_x bytes ranges no_pc x e =
     }
 
 target_csr : (bytes : List ℕ) → AreBytes bytes → byte_in 20 bytes ≤ 2 → (byte_in 20 bytes == 0) ≡ false → (byte_in 20 bytes == 1) ≡ false
-    → rule form.Field 22 (is_poked_csr (u16_in 22 bytes)) ≡ Ok tt → FoundTarget bytes
+    → rule form.Field 22 (is_poked_csr (u16_in 22 bytes)) ≡ None → FoundTarget bytes
 target_csr bytes ranges low no_pc no_x e =
     let is : target_in bytes ≡ Csr (u16_in 22 bytes) = cond-false (byte_in 20 bytes == 0) Pc _ no_pc ∙ cond-false (byte_in 20 bytes == 1) (X (byte_in 22 bytes)) _ no_x in
     record {
       code = rw is (omega (arith, eqb-false (byte_in 20 bytes) 0 no_pc, eqb-false (byte_in 20 bytes) 1 no_x));
       number = rw is refl;
-      fits = rw is (poked_csr (u16_in 22 bytes) (rule_ok _ _ _ e));
+      fits = rw is (rule_ok _ _ _ e);
       holds = rw is (u16_below bytes 22 ranges);
     }
 
-found_target : (bytes : List ℕ) → AreBytes bytes → byte_in 20 bytes ≤ 2 → target_checks (byte_in 20 bytes) bytes ≡ Ok tt → FoundTarget bytes
+found_target : (bytes : List ℕ) → AreBytes bytes → byte_in 20 bytes ≤ 2 → target_fault (byte_in 20 bytes) bytes ≡ None → FoundTarget bytes
 found_target bytes ranges low e =
-    elim (chosen (byte_in 20 bytes == 0) _ _ (Ok tt) e) [
+    elim (chosen (byte_in 20 bytes == 0) _ _ None e) [
       | inl pc ↦ target_pc bytes pc.0 pc.1
-      | inr no_pc ↦ elim (chosen (byte_in 20 bytes == 1) _ _ (Ok tt) no_pc.1) [
+      | inr no_pc ↦ elim (chosen (byte_in 20 bytes == 1) _ _ None no_pc.1) [
         | inl x ↦ target_x bytes ranges no_pc.0 x.0 x.1
         | inr no_x ↦ target_csr bytes ranges low no_pc.0 no_x.0 no_x.1
       ]
@@ -137,11 +135,11 @@ poke_same : (target target' reserved number number' value : ℕ) → target ≡ 
     → target ∷ reserved ∷ to_le_bytes w16 number ++ to_le_bytes w64 value ≡ target' ∷ 0 ∷ to_le_bytes w16 number' ++ to_le_bytes w64 value
 poke_same target target' reserved number number' value e f g = rw (e, f, g) refl
 
-pub found_poke : (bytes : List ℕ) → AreBytes bytes → length bytes ≡ 32 → poke_checks bytes ≡ Ok tt → Found kind.Poke bytes
+pub found_poke : (bytes : List ℕ) → AreBytes bytes → length bytes ≡ 32 → poke_fault bytes ≡ None → Found kind.Poke bytes
 found_poke bytes ranges len e =
-    let tag = then_ok (reserved 12 8 bytes) _ tt e in
-    let target = then_ok (rule form.Field 20 (nat_le (byte_in 20 bytes) 2)) _ tt tag.1 in
-    let zero = then_ok (reserved 21 1 bytes) (target_checks (byte_in 20 bytes) bytes) tt target.1 in
+    let tag = none_else (reserved 12 8 bytes) _ e in
+    let target = none_else (rule form.Field 20 (nat_le (byte_in 20 bytes) 2)) _ tag.1 in
+    let zero = none_else (reserved 21 1 bytes) (target_fault (byte_in 20 bytes) bytes) target.1 in
     let found = found_target bytes ranges (leb-true (byte_in 20 bytes) 2 (rule_ok _ _ _ target.0)) zero.1 in
     record {
       spelled = byte_off bytes _ 20 21 (omega arith) refl (byte_off bytes _ 21 22 (omega arith) refl (u16_off bytes _ 22 24 ranges (omega arith) refl
@@ -159,7 +157,7 @@ pub record FoundPiece (bytes : List ℕ) : Type 0 where
   pub holds : HoldsPiece (piece_in bytes)
 
 pub found_piece : (bytes : List ℕ) → AreBytes bytes → length bytes ≡ u16_in 0 bytes + 2 → 28 ≤ u16_in 0 bytes → u16_in 0 bytes ≤ 35
-    → piece_checks bytes ≡ Ok tt → FoundPiece bytes
+    → piece_fault bytes ≡ None → FoundPiece bytes
 found_piece bytes ranges len low high e =
     let count = eqb-true (27 + byte_in 28 bytes) (u16_in 0 bytes) (rule_ok form.Field 28 (27 + byte_in 28 bytes == u16_in 0 bytes) e) in
     let size : length (drop 29 bytes) ≡ byte_in 28 bytes = length-drop 29 bytes ∙ omega arith in
@@ -171,10 +169,10 @@ found_piece bytes ranges len low high e =
 
 -- ---- Write
 
-pub found_write : (bytes : List ℕ) → AreBytes bytes → length bytes ≡ 100 → write_checks bytes ≡ Ok tt → Found kind.Write bytes
+pub found_write : (bytes : List ℕ) → AreBytes bytes → length bytes ≡ 100 → write_fault bytes ≡ None → Found kind.Write bytes
 found_write bytes ranges len e =
-    let tag = then_ok (reserved 12 8 bytes) _ tt e in
-    let line = then_ok (rule form.Field 20 (u64_in 20 bytes % 64 == 0)) (unmasked_zeros (u64_in 28 bytes) 0 (take 64 (drop 36 bytes))) tt tag.1 in
+    let tag = none_else (reserved 12 8 bytes) _ e in
+    let line = none_else (rule form.Field 20 (u64_in 20 bytes % 64 == 0)) (unmasked_zeros (u64_in 28 bytes) 0 (take 64 (drop 36 bytes))) tag.1 in
     let whole : take 64 (drop 36 bytes) ≡ drop 36 bytes = take_all 64 (drop 36 bytes) (omega (arith, length-drop 36 bytes)) in
     record {
       spelled = u64_off bytes _ 20 28 ranges (omega arith) refl (u64_off bytes _ 28 36 ranges (omega arith) refl (sym whole));
@@ -198,7 +196,7 @@ found_write bytes ranges len e =
 pub found_squash : (bytes : List ℕ) → length bytes ≡ 20 → Found kind.Squash bytes
 found_squash bytes len = record { spelled = drop_all 20 bytes (omega arith); fits = tt; holds = tt }
 
-pub found_end : (bytes : List ℕ) → length bytes ≡ 20 → end_checks bytes ≡ Ok tt → Found kind.End bytes
+pub found_end : (bytes : List ℕ) → length bytes ≡ 20 → end_fault bytes ≡ None → Found kind.End bytes
 found_end bytes len e =
-    let hart = then_ok (reserved 3 1 bytes) (reserved 12 8 bytes) tt e in
+    let hart = none_else (reserved 3 1 bytes) (reserved 12 8 bytes) e in
     record { spelled = drop_all 20 bytes (omega arith); fits = (reserved_byte 3 bytes hart.0, reserved_u64 12 bytes hart.1); holds = tt }

@@ -12,9 +12,9 @@ use Rattle.msg_frames.specs.declared.kinds.Kind.TheVariants as kind
 use Rattle.msg_frames.specs.Fields.{byte_in, u16_in, u64_in}
 use Rattle.msg_frames.specs.Kinds.{has_length}
 use Rattle.msg_frames.specs.Frames.{AreBytes, csr_bytes, flag, rd_number, rd_value, HoldsCsr}
-use Rattle.msg_frames.specs.Reading.{rule, reserved, has_trap, has_rd, cause_checks, rd_checks, value_checks, retire_checks, csrs_in}
+use Rattle.msg_frames.specs.Reading.{rule, reserved, has_trap, has_rd, cause_fault, rd_fault, value_fault, retire_fault, csrs_in}
 use Rattle.msg_frames.proofs.Bytes.{AreBytes-drop, byte_off, u16_off, u32_off, u64_off, byte_below, u16_below, u32_below, u64_below}
-use Rattle.msg_frames.proofs.Steps.{then_ok, rule_ok, chosen}
+use Rattle.msg_frames.proofs.Steps.{none_else, rule_ok, chosen}
 use Rattle.msg_frames.proofs.Found.{Found, reserved_byte, reserved_u64}
 
 -- ---- the CSRs
@@ -72,27 +72,31 @@ cause_holds : (trapped : Bool) (cause : ℕ) → cause < 2 ^ 8 → IfSome (cond 
 cause_holds true cause h = h
 cause_holds false cause h = tt
 
-cause_found : (bytes : List ℕ) → cause_checks bytes ≡ Ok tt → has_trap bytes ≡ false → byte_in 41 bytes ≡ 0
-cause_found bytes e without = elim (chosen (has_trap bytes) (Ok tt) (reserved 41 1 bytes) (Ok tt) e) [
+cause_found : (bytes : List ℕ) → cause_fault bytes ≡ None → has_trap bytes ≡ false → byte_in 41 bytes ≡ 0
+unfolding cause_fault
+cause_found bytes e without = elim (chosen (has_trap bytes) None (reserved 41 1 bytes) None e) [
   | inl way ↦ cc
   | inr way ↦ reserved_byte 41 bytes way.1
 ]
 
-number_found : (bytes : List ℕ) → rd_checks bytes ≡ Ok tt → has_rd bytes ≡ false → byte_in 42 bytes ≡ 0
-number_found bytes e without = elim (chosen (has_rd bytes) (rule form.Field 42 (nat_le 1 (byte_in 42 bytes) && nat_le (byte_in 42 bytes) 31)) (reserved 42 1 bytes) (Ok tt) e) [
+number_found : (bytes : List ℕ) → rd_fault bytes ≡ None → has_rd bytes ≡ false → byte_in 42 bytes ≡ 0
+unfolding rd_fault
+number_found bytes e without = elim (chosen (has_rd bytes) (rule form.Field 42 (nat_le 1 (byte_in 42 bytes) && nat_le (byte_in 42 bytes) 31)) (reserved 42 1 bytes) None e) [
   | inl way ↦ cc
   | inr way ↦ reserved_byte 42 bytes way.1
 ]
 
-rd_found : (bytes : List ℕ) → rd_checks bytes ≡ Ok tt → has_rd bytes ≡ true → (1 ≤ byte_in 42 bytes) × (byte_in 42 bytes ≤ 31)
-rd_found bytes e with_rd = elim (chosen (has_rd bytes) (rule form.Field 42 (nat_le 1 (byte_in 42 bytes) && nat_le (byte_in 42 bytes) 31)) (reserved 42 1 bytes) (Ok tt) e) [
+rd_found : (bytes : List ℕ) → rd_fault bytes ≡ None → has_rd bytes ≡ true → (1 ≤ byte_in 42 bytes) × (byte_in 42 bytes ≤ 31)
+unfolding rd_fault
+rd_found bytes e with_rd = elim (chosen (has_rd bytes) (rule form.Field 42 (nat_le 1 (byte_in 42 bytes) && nat_le (byte_in 42 bytes) 31)) (reserved 42 1 bytes) None e) [
   | inl way ↦ let parts = and_parts (nat_le 1 (byte_in 42 bytes)) (nat_le (byte_in 42 bytes) 31) (rule_ok form.Field 42 _ way.1) in
       (leb-true 1 (byte_in 42 bytes) parts.0, leb-true (byte_in 42 bytes) 31 parts.1)
   | inr way ↦ cc
 ]
 
-value_found : (bytes : List ℕ) → value_checks bytes ≡ Ok tt → has_rd bytes ≡ false → u64_in 44 bytes ≡ 0
-value_found bytes e without = elim (chosen (has_rd bytes) (Ok tt) (reserved 44 8 bytes) (Ok tt) e) [
+value_found : (bytes : List ℕ) → value_fault bytes ≡ None → has_rd bytes ≡ false → u64_in 44 bytes ≡ 0
+unfolding value_fault
+value_found bytes e without = elim (chosen (has_rd bytes) None (reserved 44 8 bytes) None e) [
   | inl way ↦ cc
   | inr way ↦ reserved_u64 44 bytes way.1
 ]
@@ -109,12 +113,12 @@ retire_high : (size : ℕ) → (size == 50 || size == 60 || size == 70 || size =
 retire_high size e = grind (arith, nat_tests)
 
 pub found_retire : (bytes : List ℕ) → AreBytes bytes → length bytes ≡ u16_in 0 bytes + 2 → has_length kind.Retire (u16_in 0 bytes) ≡ true
-    → retire_checks bytes ≡ Ok tt → Found kind.Retire bytes
+    → retire_fault bytes ≡ None → Found kind.Retire bytes
 found_retire bytes ranges len kind_length e =
-    let flags = then_ok (rule form.Reserved 40 (nat_lt (byte_in 40 bytes) 4)) _ tt e in
-    let cause = then_ok (cause_checks bytes) _ tt flags.1 in
-    let rd = then_ok (rd_checks bytes) _ tt cause.1 in
-    let count = then_ok (rule form.Field 43 (50 + 10 * byte_in 43 bytes == u16_in 0 bytes)) (value_checks bytes) tt rd.1 in
+    let flags = none_else (rule form.Reserved 40 (nat_lt (byte_in 40 bytes) 4)) _ e in
+    let cause = none_else (cause_fault bytes) _ flags.1 in
+    let rd = none_else (rd_fault bytes) _ cause.1 in
+    let count = none_else (rule form.Field 43 (50 + 10 * byte_in 43 bytes == u16_in 0 bytes)) (value_fault bytes) rd.1 in
     let bounds = retire_high (u16_in 0 bytes) kind_length in
     let many : 50 + 10 * byte_in 43 bytes ≡ u16_in 0 bytes = eqb-true (50 + 10 * byte_in 43 bytes) (u16_in 0 bytes) (rule_ok form.Field 43 _ count.0) in
     let room : 52 ≤ length bytes = omega arith in

@@ -1,5 +1,5 @@
 -- The laws of frames: their sizes, and that the frame of a message is read again.
-use Rattle.std.proofs.Common.{Result, ◌≡◌, ℕ, ◌+◌, ◌≤◌, ◌<◌, true, List, length, refl, ◌∙◌, arith, Ok, ap}
+use Rattle.std.proofs.Common.{Result, ◌≡◌, ℕ, ◌+◌, ◌≤◌, ◌<◌, true, List, length, refl, ◌∙◌, arith, Ok, Err, OnOk, IfErr, ap}
 use Rattle.std.specs.Prelude.{nat_le, ◌&&◌}
 use Rattle.std.proofs.lemmas.Bool.{le-leb, and_from}
 use Rattle.msg_frames.specs.declared.message.Head.{Head}
@@ -32,7 +32,7 @@ again_of head (body.Bypass piece) fits holds =
 again_of head (body.Retire retire) fits holds = again_retire head retire fits holds
 again_of head body.Squash fits holds = record { few = omega arith; allowed = refl; checked = refl; value = refl }
 again_of head body.End fits holds =
-    record { few = omega arith; allowed = refl; checked = then_from _ _ tt (zero_from 3 head.hart fits.0) (zeros_u64 12 head.tag fits.1); value = refl }
+    record { few = omega arith; allowed = refl; checked = then_from _ _ (zero_from 3 head.hart fits.0) (zeros_u64 12 head.tag fits.1); value = refl }
 
 same_message : (head head' : Head) (body body' : Body) → head ≡ head' → body ≡ body'
     → (let old : Message = record { head = head; body = body } in let new : Message = record { head = head'; body = body' } in old ≡ new)
@@ -60,10 +60,26 @@ reading_frame message fits holds =
 pub spells_reading : (bytes : List ℕ) (message : Message) → Spells bytes message → reading bytes ≡ Ok message
 spells_reading bytes message spells = ap reading spells.is ∙ reading_frame message spells.fits spells.holds
 
-same_ok : (read : Result Message FrameFault) (first second : Message) → read ≡ Ok first → read ≡ Ok second → first ≡ second
+-- one answer is at most one message
+pub same_ok : (read : Result Message FrameFault) (first second : Message) → read ≡ Ok first → read ≡ Ok second → first ≡ second
 same_ok read first second e f = cc
 
 -- bytes spell at most one message
 pub one_message : (bytes : List ℕ) (first second : Message) → Spells bytes first → Spells bytes second → first ≡ second
 one_message bytes first second p q =
     same_ok (reading bytes) first second (spells_reading bytes first p) (spells_reading bytes second q)
+
+ok_err : {A : Type 0} (read : Result Message FrameFault) (message : Message) (fault : FrameFault) → read ≡ Ok message → read ≡ Err fault → A
+ok_err read message fault e f = cc
+
+-- bytes that spell a message have no fault
+pub spells_no_fault : {A : Type 0} (bytes : List ℕ) (message : Message) (fault : FrameFault) → Spells bytes message
+    → reading bytes ≡ Err fault → A
+spells_no_fault bytes message fault spells e = ok_err (reading bytes) message fault (spells_reading bytes message spells) e
+
+-- where bytes spell a message it is the one that was read
+pub only_into : (bytes : List ℕ) (result : Result (Unit {0}) FrameFault) (new message : Message) → OnOk result (reading bytes ≡ Ok new)
+    → IfErr result (λ fault. reading bytes ≡ Err fault) → Spells bytes message → (result ≡ Ok tt) × (new ≡ message)
+only_into bytes (Ok v) new message read fault spells =
+    (refl, same_ok (reading bytes) new message read (spells_reading bytes message spells))
+only_into bytes (Err broken) new message read fault spells = spells_no_fault bytes message broken spells fault

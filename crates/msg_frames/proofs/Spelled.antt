@@ -1,5 +1,5 @@
 -- The message that is read from a frame is the one that the frame spells.
-use Rattle.std.proofs.Common.{◌≡◌, ℕ, ◌+◌, ◌≤◌, true, List, ◌∷◌, ◌++◌, length, refl, sym, ◌∙◌, ap, subst, arith, Result, Ok, Err, IfOk, length-drop}
+use Rattle.std.proofs.Common.{◌≡◌, ℕ, ◌+◌, ◌≤◌, true, List, ◌∷◌, ◌++◌, length, refl, sym, ◌∙◌, ap, subst, arith, Result, Ok, Err, OnOk, length-drop, None}
 use Rattle.std.specs.Prelude.{◌==◌, nat_le}
 use Rattle.std.specs.Int.{w16, w64, to_le_bytes}
 use Rattle.std.proofs.lemmas.Bool.{eqb-true, leb-true, and_parts}
@@ -10,7 +10,7 @@ use Rattle.msg_frames.specs.declared.kinds.Kind.TheVariants as kind
 use Rattle.msg_frames.specs.Fields.{byte_in, u16_in}
 use Rattle.msg_frames.specs.Kinds.{code_of, kind_of, has_length, has_piece_length}
 use Rattle.msg_frames.specs.Frames.{AreBytes, body_bytes, frame, Spells}
-use Rattle.msg_frames.specs.Reading.{checks, piece_checks, body_in, message_in, reading}
+use Rattle.msg_frames.specs.Reading.{field_fault, piece_fault, body_in, message_in, reading}
 use Rattle.msg_frames.proofs.Bytes.{byte_off, u16_off, u64_off, byte_below, u64_below}
 use Rattle.msg_frames.proofs.Ways.{Read, reading_ok, coded_is, Whole, whole_is}
 use Rattle.msg_frames.proofs.Found.{Found, FoundPiece, found_open, found_poke, found_piece, found_write, found_squash, found_end}
@@ -20,12 +20,12 @@ use Rattle.msg_frames.proofs.FoundRetire.{found_retire}
 size_is : (bytes : List ℕ) (n m : ℕ) → Whole bytes → (u16_in 0 bytes == n) ≡ true → n + 2 ≡ m → length bytes ≡ m
 size_is bytes n m whole e sum = whole.size ∙ ap (λ k. k + 2) (eqb-true (u16_in 0 bytes) n e) ∙ sum
 
-piece_of : (bytes : List ℕ) → AreBytes bytes → Whole bytes → has_piece_length (u16_in 0 bytes) ≡ true → piece_checks bytes ≡ Ok tt → FoundPiece bytes
+piece_of : (bytes : List ℕ) → AreBytes bytes → Whole bytes → has_piece_length (u16_in 0 bytes) ≡ true → piece_fault bytes ≡ None → FoundPiece bytes
 piece_of bytes ranges whole size e =
     let parts = and_parts (nat_le 28 (u16_in 0 bytes)) (nat_le (u16_in 0 bytes) 35) size in
     found_piece bytes ranges whole.size (leb-true 28 (u16_in 0 bytes) parts.0) (leb-true (u16_in 0 bytes) 35 parts.1) e
 
-found_of : (which : Kind) (bytes : List ℕ) → AreBytes bytes → Whole bytes → has_length which (u16_in 0 bytes) ≡ true → checks which bytes ≡ Ok tt
+found_of : (which : Kind) (bytes : List ℕ) → AreBytes bytes → Whole bytes → has_length which (u16_in 0 bytes) ≡ true → field_fault which bytes ≡ None
     → Found which bytes
 found_of kind.Open bytes ranges whole size e = found_open bytes ranges (size_is bytes 26 28 whole size refl) e
 found_of kind.Poke bytes ranges whole size e = found_poke bytes ranges (size_is bytes 30 32 whole size refl) e
@@ -82,6 +82,8 @@ pub spelled : (bytes : List ℕ) (message : Message) → AreBytes bytes → read
 spelled bytes message ranges e =
     let way = reading_ok bytes message e in spells_read bytes message ranges (whole_is bytes way.0) way.1
 
-pub found_reading : (bytes : List ℕ) (read : Result Message FrameFault) → AreBytes bytes → read ≡ reading bytes → IfOk read (Spells bytes)
-found_reading bytes (Ok message) ranges e = spelled bytes message ranges (sym e)
-found_reading bytes (Err broken) ranges e = tt
+-- a frame that was read into a message spells it
+pub found_into : (bytes : List ℕ) (result : Result (Unit {0}) FrameFault) (message : Message) → AreBytes bytes
+    → OnOk result (reading bytes ≡ Ok message) → OnOk result (Spells bytes message)
+found_into bytes (Ok v) message ranges e = spelled bytes message ranges e
+found_into bytes (Err broken) message ranges e = tt

@@ -1,21 +1,26 @@
 -- What checks that found nothing say, and what an if-chain that ended says.
-use Rattle.std.proofs.Common.{◌≡◌, ℕ, zero, suc, ◌+◌, ◌⊎◌, Bool, true, false, cond, List, [], ◌∷◌, get_or, refl, arith, add-zero, inl, inr, Result, Ok, Err}
+use Rattle.std.proofs.Common.{◌≡◌, ℕ, zero, suc, ◌+◌, ◌⊎◌, Bool, true, false, cond, List, [], ◌∷◌, get_or, refl, arith, add-zero, inl, inr, Result, Ok, Err, Option, None, Some}
 use Rattle.std.specs.Prelude.{◌==◌, not, ◌&&◌}
 use Rattle.std.proofs.lemmas.Bool.{eqb-true}
 use Rattle.std.proofs.lemmas.Bool.Decides.{nat_tests}
+use Rattle.tandem_base.specs.FirstFault.{◌or_else◌, unless}
 use Rattle.msg_frames.specs.declared.message.FrameFault.{FrameFault}
 use Rattle.msg_frames.specs.declared.message.Form.{Form}
 use Rattle.msg_frames.specs.Frames.{mask_bit}
-use Rattle.msg_frames.specs.Reading.{Checked, ◌>>◌, rule, zeros, is_stray, unmasked_zeros}
+use Rattle.msg_frames.specs.Reading.{rule, zeros, is_stray, unmasked_zeros}
 
--- a check found nothing, and then the next gave this
-pub then_ok : {A : Type 0} (first : Checked) (next : Result A FrameFault) (x : A) → first >> next ≡ Ok x
-    → (first ≡ Ok tt) × (next ≡ Ok x)
-then_ok (Ok tt) next x e = (refl, e)
-then_ok (Err broken) next x e = cc
+-- neither the first nor the next found a fault
+pub none_else : (first next : Option FrameFault) → first or_else next ≡ None → (first ≡ None) × (next ≡ None)
+none_else None next e = (refl, e)
+none_else (Some broken) next e = cc
+
+-- a value was given, so there was no fault
+pub unless_ok : {A : Type 0} (found : Option FrameFault) (x y : A) → unless found x ≡ Ok y → (found ≡ None) × (x ≡ y)
+unless_ok None x y e = (refl, cc)
+unless_ok (Some broken) x y e = cc
 
 -- the rule holds
-pub rule_ok : (form : Form) (at : ℕ) (holds : Bool) → rule form at holds ≡ Ok tt → holds ≡ true
+pub rule_ok : (form : Form) (at : ℕ) (holds : Bool) → rule form at holds ≡ None → holds ≡ true
 rule_ok form at true e = refl
 rule_ok form at false e = cc
 
@@ -30,28 +35,34 @@ pub chosen_ok : {A : Type 0} (b : Bool) (x : Result A FrameFault) (broken : Fram
 chosen_ok true x broken z e = (refl, e)
 chosen_ok false x broken z e = cc
 
--- each byte is 0
-pub zeros_ok : (at : ℕ) (bytes : List ℕ) → zeros at bytes ≡ Ok tt → (k : ℕ) → get_or bytes k 0 ≡ 0
-zeros_ok at [] e k = refl
-zeros_ok at (byte ∷ bytes) e zero = eqb-true byte 0 (chosen_ok (byte == 0) (zeros (at + 1) bytes) _ tt e).0
-zeros_ok at (byte ∷ bytes) e (suc k) = zeros_ok (at + 1) bytes (chosen_ok (byte == 0) (zeros (at + 1) bytes) _ tt e).1 k
+-- a choice that found nothing went past the fault before it
+chosen_none : (b : Bool) (x : Option FrameFault) (broken : FrameFault)
+    → cond b x (Some broken) ≡ None → (b ≡ true) × (x ≡ None)
+chosen_none true x broken e = (refl, e)
+chosen_none false x broken e = cc
 
--- a choice that gave nothing didn't go to a fault
-chosen_no : {A : Type 0} (b : Bool) (y : Result A FrameFault) (broken : FrameFault) (z : A)
-    → cond b (Err broken) y ≡ Ok z → (b ≡ false) × (y ≡ Ok z)
-chosen_no true y broken z e = cc
-chosen_no false y broken z e = (refl, e)
+-- each byte is 0
+pub zeros_ok : (at : ℕ) (bytes : List ℕ) → zeros at bytes ≡ None → (k : ℕ) → get_or bytes k 0 ≡ 0
+zeros_ok at [] e k = refl
+zeros_ok at (byte ∷ bytes) e zero = eqb-true byte 0 (chosen_none (byte == 0) (zeros (at + 1) bytes) _ e).0
+zeros_ok at (byte ∷ bytes) e (suc k) = zeros_ok (at + 1) bytes (chosen_none (byte == 0) (zeros (at + 1) bytes) _ e).1 k
+
+-- a choice that found nothing went past the fault behind it
+chosen_later : (b : Bool) (y : Option FrameFault) (broken : FrameFault)
+    → cond b (Some broken) y ≡ None → (b ≡ false) × (y ≡ None)
+chosen_later true y broken e = cc
+chosen_later false y broken e = (refl, e)
 
 -- a byte outside the mask is 0
 stray_no : (bit byte : ℕ) → (bit == 0 && not (byte == 0)) ≡ false → bit ≡ 0 → byte ≡ 0
 stray_no bit byte e outside = grind (arith, nat_tests)
 
 -- each byte outside the mask is 0
-pub unmasked_ok : (mask k : ℕ) (bytes : List ℕ) → unmasked_zeros mask k bytes ≡ Ok tt → (i : ℕ) → mask_bit mask (k + i) ≡ 0 → get_or bytes i 0 ≡ 0
+pub unmasked_ok : (mask k : ℕ) (bytes : List ℕ) → unmasked_zeros mask k bytes ≡ None → (i : ℕ) → mask_bit mask (k + i) ≡ 0 → get_or bytes i 0 ≡ 0
 unmasked_ok mask k [] e i outside = refl
 unmasked_ok mask k (byte ∷ bytes) e zero outside =
     let here : mask_bit mask k ≡ 0 = rw add-zero at outside in
-    stray_no (mask_bit mask k) byte (chosen_no (is_stray mask k byte) (unmasked_zeros mask (k + 1) bytes) _ tt e).0 here
+    stray_no (mask_bit mask k) byte (chosen_later (is_stray mask k byte) (unmasked_zeros mask (k + 1) bytes) _ e).0 here
 unmasked_ok mask k (byte ∷ bytes) e (suc i) outside =
     let same : k + suc i ≡ k + 1 + i = omega arith in
-    unmasked_ok mask (k + 1) bytes (chosen_no (is_stray mask k byte) (unmasked_zeros mask (k + 1) bytes) _ tt e).1 i (rw same at outside)
+    unmasked_ok mask (k + 1) bytes (chosen_later (is_stray mask k byte) (unmasked_zeros mask (k + 1) bytes) _ e).1 i (rw same at outside)

@@ -13,7 +13,10 @@ use Rattle.msg_frames.specs.declared.message.Form.TheVariants as form
 use Rattle.msg_frames.specs.Fields.{u16_in}
 use Rattle.msg_frames.specs.Reading.{fault, is_length, is_whole, reading}
 use Rattle.msg_frames.specs.Cut.{needed}
-use Rattle.msg_frames.specs.Taking.{Took, IsWhole, IsShort}
+use Rattle.msg_frames.specs.declared.message.Message.{Message}
+use Rattle.msg_frames.specs.declared.source.Arrived.{Arrived}
+use Rattle.msg_frames.specs.declared.source.Arrived.TheVariants as arrived
+use Rattle.msg_frames.specs.Taking.{Took, IsWhole, IsShort, FrameIs, ArrivedIs}
 
 -- ---- reads in turn
 
@@ -107,3 +110,11 @@ pub part_size : (front tail part : List ℕ) (n k : ℕ) → length front ≡ 2 
     → length part ≡ length (take (k + 2 - 2) (drop 2 (front ++ tail))) → length part ≡ n
 part_size front tail part n k size room few same e =
     e ∙ length-take-le (k + 2 - 2) (drop 2 (front ++ tail)) (omega (arith, length-drop 2 (front ++ tail), length-append front tail)) ∙ omega arith
+
+-- a whole frame that was read is what was taken
+pub whole_arrived : (answer : Arrived) (old new : Message) (got : List ℕ) (left : Option (List ℕ)) → IsWhole got → FrameIs answer old new got
+    → ArrivedIs answer old new got left
+whole_arrived arrived.Message old new got left whole is = (whole, is.0, is.1)
+whole_arrived (arrived.Bad fault) old new got left whole is = (whole, is.0, is.1)
+whole_arrived (arrived.Ended have) old new got left whole is = absurd is
+whole_arrived arrived.Failed old new got left whole is = absurd is

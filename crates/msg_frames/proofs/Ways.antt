@@ -3,19 +3,20 @@ use Rattle.std.proofs.Common.{◌≡◌, ℕ, ◌+◌, ◌≤◌, true, cond, Li
 use Rattle.std.specs.Prelude.{◌==◌, nat_le, ◌&&◌}
 use Rattle.std.proofs.lemmas.Bool.{eqb-true}
 use Rattle.std.proofs.lemmas.Bool.Decides.{nat_tests}
+use Rattle.tandem_base.specs.FirstFault.{unless}
 use Rattle.msg_frames.specs.declared.message.Message.{Message}
 use Rattle.msg_frames.specs.declared.kinds.Kind.{Kind}
 use Rattle.msg_frames.specs.declared.kinds.Kind.TheVariants as kind
 use Rattle.msg_frames.specs.Fields.{byte_in, u16_in}
 use Rattle.msg_frames.specs.Kinds.{code_of, kind_coded, has_length}
-use Rattle.msg_frames.specs.Reading.{◌>>◌, checks, message_in, is_whole, reading_of, reading}
-use Rattle.msg_frames.proofs.Steps.{then_ok, chosen, chosen_ok}
+use Rattle.msg_frames.specs.Reading.{field_fault, message_in, is_whole, reading_of, reading}
+use Rattle.msg_frames.proofs.Steps.{unless_ok, chosen, chosen_ok}
 
 pub record Read (bytes : List ℕ) (message : Message) : Type 0 where
   pub which : Kind
   pub coded : kind_coded (byte_in 2 bytes) ≡ Some which
   pub length : has_length which (u16_in 0 bytes) ≡ true
-  pub checked : checks which bytes ≡ Ok tt
+  pub checked : field_fault which bytes ≡ None
   pub value : message_in which bytes ≡ message
 
 read_of : (o : Option Kind) (bytes : List ℕ) (message : Message) → o ≡ kind_coded (byte_in 2 bytes)
@@ -23,9 +24,9 @@ read_of : (o : Option Kind) (bytes : List ℕ) (message : Message) → o ≡ kin
 unfolding reading_of
 read_of None bytes message o e = cc
 read_of (Some which) bytes message o e =
-    let way = chosen_ok (has_length which (u16_in 0 bytes)) (checks which bytes >> Ok (message_in which bytes)) _ message e in
-    let last = then_ok (checks which bytes) (Ok (message_in which bytes)) message way.1 in
-    record { which = which; coded = sym o; length = way.0; checked = last.0; value = cc }
+    let way = chosen_ok (has_length which (u16_in 0 bytes)) (unless (field_fault which bytes) (message_in which bytes)) _ message e in
+    let last = unless_ok (field_fault which bytes) (message_in which bytes) message way.1 in
+    record { which = which; coded = sym o; length = way.0; checked = last.0; value = last.1 }
 
 pub reading_ok : (bytes : List ℕ) (message : Message) → reading bytes ≡ Ok message
     → (is_whole bytes ≡ true) × Read bytes message

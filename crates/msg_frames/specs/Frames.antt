@@ -1,7 +1,8 @@
 -- The one spelling of a message, and the rules that its fields keep.
-use Rattle.std.specs.Prelude.{◌≡◌, ℕ, ◌+◌, ◌/◌, ◌%◌, ◌^◌, ◌<◌, ◌≤◌, ◌⊎◌, List, [], ◌∷◌, ◌++◌, length, slice_index, All, Option, Some, None, IfSome, unwrap_or}
+use Rattle.std.specs.Prelude.{◌≡◌, ℕ, ◌+◌, ◌/◌, ◌%◌, ◌^◌, ◌<◌, ◌≤◌, ◌⊎◌, Bool, IsTrue, nat_eq, List, [], ◌∷◌, ◌++◌, length, slice_index, All, Option, Some, None, IfSome, unwrap_or}
 use Rattle.std.specs.Int.{w16, w32, w64, to_le_bytes}
-use Rattle.std.specs.List.{flat_map}
+use Rattle.std.specs.List.{flat_map, list_any}
+use Rattle.tandem_base.specs.CsrNumbers as csr
 use Rattle.msg_frames.specs.declared.csrs.CsrValue.{CsrValue}
 use Rattle.msg_frames.specs.declared.message.Head.{Head}
 use Rattle.msg_frames.specs.declared.message.OpenInfo.{OpenInfo}
@@ -105,16 +106,19 @@ abbrev pub FitsOpen : OpenInfo → Type 0
 FitsOpen info = (info.version ≡ 1) × (1 ≤ info.harts) × (info.harts ≤ 16) × (info.flags < 4)
     × (info.granule ≡ 0) × (info.skew ≡ 0)
 
--- mstatus, mie, mtvec, mscratch, mepc, mcause and mtval
-abbrev pub IsPokedCsr : ℕ → Type 0
-IsPokedCsr number = (number ≡ 0x300) ⊎ (number ≡ 0x304) ⊎ (number ≡ 0x305) ⊎ (number ≡ 0x340)
-    ⊎ (number ≡ 0x341) ⊎ (number ≡ 0x342) ⊎ (number ≡ 0x343)
+-- the CSRs that a Poke may set
+abbrev pub poked_csrs : List ℕ
+poked_csrs = csr.mstatus ∷ csr.mie ∷ csr.mtvec ∷ csr.mscratch ∷ csr.mepc ∷ csr.mcause ∷ csr.mtval ∷ []
+
+-- the number is that of one of them
+abbrev pub is_poked_csr : ℕ → Bool
+is_poked_csr number = list_any (nat_eq number) poked_csrs
 
 -- a pc is a multiple of 4, and a register x1 to x31
 abbrev pub FitsTarget : Target → ℕ → Type 0
 FitsTarget Pc value = value % 4 ≡ 0
 FitsTarget (X number) value = (1 ≤ number) × (number ≤ 31)
-FitsTarget (Csr number) value = IsPokedCsr number
+FitsTarget (Csr number) value = IsTrue (is_poked_csr number)
 
 -- bit k of a mask stands for byte k
 abbrev pub mask_bit : ℕ → ℕ → ℕ

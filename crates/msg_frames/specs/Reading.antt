@@ -1,5 +1,6 @@
 -- Which message a frame spells, and else the first fault of its form.
 use Rattle.std.specs.Prelude.{ℕ, zero, suc, ◌==◌, nat_le, nat_lt, ◌&&◌, ◌||◌, not, ◌+◌, ◌*◌, ◌/◌, ◌%◌, Bool, true, false, if◌then◌else◌, List, [], ◌∷◌, length, take, drop, Option, Some, None, Result, Ok, Err}
+use Rattle.tandem_base.specs.FirstFault.{◌or_else◌, unless}
 use Rattle.msg_frames.specs.declared.csrs.CsrValue.{CsrValue}
 use Rattle.msg_frames.specs.declared.message.Head.{Head}
 use Rattle.msg_frames.specs.declared.message.OpenInfo.{OpenInfo}
@@ -8,6 +9,7 @@ use Rattle.msg_frames.specs.declared.message.Target.TheVariants.{Pc, X, Csr}
 use Rattle.msg_frames.specs.declared.message.Poke.{Poke}
 use Rattle.msg_frames.specs.declared.message.Piece.{Piece}
 use Rattle.msg_frames.specs.declared.message.LineWrite.{LineWrite}
+use Rattle.msg_frames.specs.declared.message.RdValue.{RdValue}
 use Rattle.msg_frames.specs.declared.message.Retire.{Retire}
 use Rattle.msg_frames.specs.declared.message.Body.{Body}
 use Rattle.msg_frames.specs.declared.message.Body.TheVariants as body
@@ -18,37 +20,27 @@ use Rattle.msg_frames.specs.declared.message.FrameFault.{FrameFault}
 use Rattle.msg_frames.specs.declared.kinds.Kind.{Kind}
 use Rattle.msg_frames.specs.declared.kinds.Kind.TheVariants as kind
 use Rattle.msg_frames.specs.Fields.{byte_in, u16_in, u32_in, u64_in}
-use Rattle.msg_frames.specs.Frames.{mask_bit}
+use Rattle.msg_frames.specs.Frames.{mask_bit, is_poked_csr}
 use Rattle.msg_frames.specs.Kinds.{kind_coded, has_length}
 
--- ---- the checks of the fields, in the order of their offsets
-
--- what a check finds: nothing, or a fault
-abbrev pub Checked : Type 0
-Checked = Result (Unit {0}) FrameFault
+-- ---- the first fault of the fields, in the order of their offsets
 
 -- the fault of this form at this offset
 abbrev pub fault : Form → ℕ → FrameFault
 fault form offset = record { form = form; offset = offset }
 
--- a check, and where it finds nothing the next
-infixr 5 ◌>>◌
-abbrev pub ◌>>◌ : {A : Type 0} → Checked → Result A FrameFault → Result A FrameFault
-(Ok _) >> next = next
-(Err broken) >> next = Err broken
-
 -- a rule of the field at this offset
-abbrev pub rule : Form → ℕ → Bool → Checked
-rule form at true = Ok tt
-rule form at false = Err (fault form at)
+abbrev pub rule : Form → ℕ → Bool → Option FrameFault
+rule form at true = None
+rule form at false = Some (fault form at)
 
 -- these bytes, the first at this offset, have to be 0
-abbrev pub zeros : ℕ → List ℕ → Checked
-zeros at [] = Ok tt
-zeros at (byte ∷ bytes) = if byte == 0 then zeros (at + 1) bytes else Err (fault form.Reserved at)
+abbrev pub zeros : ℕ → List ℕ → Option FrameFault
+zeros at [] = None
+zeros at (byte ∷ bytes) = if byte == 0 then zeros (at + 1) bytes else Some (fault form.Reserved at)
 
 -- the `count` bytes from this offset on have to be 0
-abbrev pub reserved : ℕ → ℕ → List ℕ → Checked
+abbrev pub reserved : ℕ → ℕ → List ℕ → Option FrameFault
 reserved at count frame = zeros at (take count (drop at frame))
 
 -- byte k of a line is outside the mask, and not 0
@@ -57,52 +49,47 @@ is_stray mask k byte = mask_bit mask k == 0 && not (byte == 0)
 
 -- these bytes, the first with number k of its line, have to be 0 outside the mask; byte k is at
 -- offset 36 + k
-abbrev pub unmasked_zeros : ℕ → ℕ → List ℕ → Checked
-unmasked_zeros mask k [] = Ok tt
+abbrev pub unmasked_zeros : ℕ → ℕ → List ℕ → Option FrameFault
+unmasked_zeros mask k [] = None
 unmasked_zeros mask k (byte ∷ bytes) =
-    if is_stray mask k byte then Err (fault form.Reserved (36 + k)) else unmasked_zeros mask (k + 1) bytes
+    if is_stray mask k byte then Some (fault form.Reserved (36 + k)) else unmasked_zeros mask (k + 1) bytes
 
 -- the hart and the tag, then the settings
-abbrev pub open_checks : List ℕ → Checked
-open_checks frame =
+abbrev pub open_fault : List ℕ → Option FrameFault
+open_fault frame =
     reserved 3 1 frame
-    >> reserved 12 8 frame
-    >> rule form.Field 20 (byte_in 20 frame == 1)
-    >> rule form.Field 21 (nat_le 1 (byte_in 21 frame) && nat_le (byte_in 21 frame) 16)
-    >> rule form.Reserved 22 (nat_lt (byte_in 22 frame) 4)
-    >> reserved 23 1 frame
-    >> reserved 24 4 frame
-
--- mstatus, mie, mtvec, mscratch, mepc, mcause and mtval
-abbrev pub is_poked_csr : ℕ → Bool
-is_poked_csr number = number == 0x300 || number == 0x304 || number == 0x305 || number == 0x340
-    || number == 0x341 || number == 0x342 || number == 0x343
+    or_else reserved 12 8 frame
+    or_else rule form.Field 20 (byte_in 20 frame == 1)
+    or_else rule form.Field 21 (nat_le 1 (byte_in 21 frame) && nat_le (byte_in 21 frame) 16)
+    or_else rule form.Reserved 22 (nat_lt (byte_in 22 frame) 4)
+    or_else reserved 23 1 frame
+    or_else reserved 24 4 frame
 
 -- the number and the value that go with each target
-abbrev pub target_checks : ℕ → List ℕ → Checked
-target_checks target frame =
-    if target == 0 then reserved 22 2 frame >> rule form.Field 24 (u64_in 24 frame % 4 == 0)
+abbrev pub target_fault : ℕ → List ℕ → Option FrameFault
+target_fault target frame =
+    if target == 0 then reserved 22 2 frame or_else rule form.Field 24 (u64_in 24 frame % 4 == 0)
     else if target == 1 then rule form.Field 22 (nat_le 1 (u16_in 22 frame) && nat_le (u16_in 22 frame) 31)
     else rule form.Field 22 (is_poked_csr (u16_in 22 frame))
 
 -- the tag, the target, the zero, and what goes with the target
-abbrev pub poke_checks : List ℕ → Checked
-poke_checks frame =
+abbrev pub poke_fault : List ℕ → Option FrameFault
+poke_fault frame =
     reserved 12 8 frame
-    >> rule form.Field 20 (nat_le (byte_in 20 frame) 2)
-    >> reserved 21 1 frame
-    >> target_checks (byte_in 20 frame) frame
+    or_else rule form.Field 20 (nat_le (byte_in 20 frame) 2)
+    or_else reserved 21 1 frame
+    or_else target_fault (byte_in 20 frame) frame
 
 -- as many bytes of memory as the length leaves room for
-abbrev pub piece_checks : List ℕ → Checked
-piece_checks frame = rule form.Field 28 (27 + byte_in 28 frame == u16_in 0 frame)
+abbrev pub piece_fault : List ℕ → Option FrameFault
+piece_fault frame = rule form.Field 28 (27 + byte_in 28 frame == u16_in 0 frame)
 
 -- the tag, the line, and the bytes outside the mask
-abbrev pub write_checks : List ℕ → Checked
-write_checks frame =
+abbrev pub write_fault : List ℕ → Option FrameFault
+write_fault frame =
     reserved 12 8 frame
-    >> rule form.Field 20 (u64_in 20 frame % 64 == 0)
-    >> unmasked_zeros (u64_in 28 frame) 0 (take 64 (drop 36 frame))
+    or_else rule form.Field 20 (u64_in 20 frame % 64 == 0)
+    or_else unmasked_zeros (u64_in 28 frame) 0 (take 64 (drop 36 frame))
 
 -- bit 0 of the flags: it trapped
 abbrev pub has_trap : List ℕ → Bool
@@ -113,43 +100,43 @@ abbrev pub has_rd : List ℕ → Bool
 has_rd frame = byte_in 40 frame / 2 % 2 == 1
 
 -- without a trap the cause is 0
-abbrev pub cause_checks : List ℕ → Checked
-cause_checks frame = if has_trap frame then Ok tt else reserved 41 1 frame
+unfoldable pub cause_fault : List ℕ → Option FrameFault
+cause_fault frame = if has_trap frame then None else reserved 41 1 frame
 
 -- the register that is written is x1 to x31, and else 0
-abbrev pub rd_checks : List ℕ → Checked
-rd_checks frame =
+unfoldable pub rd_fault : List ℕ → Option FrameFault
+rd_fault frame =
     if has_rd frame then rule form.Field 42 (nat_le 1 (byte_in 42 frame) && nat_le (byte_in 42 frame) 31)
     else reserved 42 1 frame
 
 -- without a register its value is 0
-abbrev pub value_checks : List ℕ → Checked
-value_checks frame = if has_rd frame then Ok tt else reserved 44 8 frame
+unfoldable pub value_fault : List ℕ → Option FrameFault
+value_fault frame = if has_rd frame then None else reserved 44 8 frame
 
 -- the flags, the cause, the register, how many CSRs the length leaves room for, and the value
-abbrev pub retire_checks : List ℕ → Checked
-retire_checks frame =
+abbrev pub retire_fault : List ℕ → Option FrameFault
+retire_fault frame =
     rule form.Reserved 40 (nat_lt (byte_in 40 frame) 4)
-    >> cause_checks frame
-    >> rd_checks frame
-    >> rule form.Field 43 (50 + 10 * byte_in 43 frame == u16_in 0 frame)
-    >> value_checks frame
+    or_else cause_fault frame
+    or_else rd_fault frame
+    or_else rule form.Field 43 (50 + 10 * byte_in 43 frame == u16_in 0 frame)
+    or_else value_fault frame
 
 -- the hart and the tag
-abbrev pub end_checks : List ℕ → Checked
-end_checks frame = reserved 3 1 frame >> reserved 12 8 frame
+abbrev pub end_fault : List ℕ → Option FrameFault
+end_fault frame = reserved 3 1 frame or_else reserved 12 8 frame
 
 -- the first fault of the fields
-abbrev pub checks : Kind → List ℕ → Checked
-checks kind.Open frame = open_checks frame
-checks kind.Poke frame = poke_checks frame
-checks kind.Read frame = piece_checks frame
-checks kind.Insert frame = piece_checks frame
-checks kind.Write frame = write_checks frame
-checks kind.Bypass frame = piece_checks frame
-checks kind.Retire frame = retire_checks frame
-checks kind.Squash frame = Ok tt
-checks kind.End frame = end_checks frame
+abbrev pub field_fault : Kind → List ℕ → Option FrameFault
+field_fault kind.Open frame = open_fault frame
+field_fault kind.Poke frame = poke_fault frame
+field_fault kind.Read frame = piece_fault frame
+field_fault kind.Insert frame = piece_fault frame
+field_fault kind.Write frame = write_fault frame
+field_fault kind.Bypass frame = piece_fault frame
+field_fault kind.Retire frame = retire_fault frame
+field_fault kind.Squash frame = None
+field_fault kind.End frame = end_fault frame
 
 -- ---- the values of the fields
 
@@ -185,14 +172,22 @@ abbrev pub csrs_in : ℕ → List ℕ → List CsrValue
 csrs_in zero bytes = []
 csrs_in (suc count) bytes = record { number = u16_in 0 bytes; value = u64_in 2 bytes } ∷ csrs_in count (drop 10 bytes)
 
+-- the cause of the trap that a Retire says it had
+abbrev pub trap_in : List ℕ → Option ℕ
+trap_in frame = if has_trap frame then Some (byte_in 41 frame) else None
+
+-- the register that a Retire says it wrote
+abbrev pub rd_in : List ℕ → Option RdValue
+rd_in frame = if has_rd frame then Some (record { number = byte_in 42 frame; value = u64_in 44 frame }) else None
+
 -- a Retire, with the trap, the register and the CSRs that it says it has
 abbrev pub retire_in : List ℕ → Retire
 retire_in frame = record {
   pc = u64_in 20 frame;
   word = u32_in 28 frame;
   next = u64_in 32 frame;
-  trap = if has_trap frame then Some (byte_in 41 frame) else None;
-  rd = if has_rd frame then Some (record { number = byte_in 42 frame; value = u64_in 44 frame }) else None;
+  trap = trap_in frame;
+  rd = rd_in frame;
   csrs = csrs_in (byte_in 43 frame) (drop 52 frame);
 }
 
@@ -226,7 +221,7 @@ is_whole frame = nat_le 2 (length frame) && is_length (u16_in 0 frame) && length
 unfoldable pub reading_of : Option Kind → List ℕ → Result Message FrameFault
 reading_of None frame = Err (fault form.Kind 2)
 reading_of (Some kind) frame =
-    if has_length kind (u16_in 0 frame) then checks kind frame >> Ok (message_in kind frame)
+    if has_length kind (u16_in 0 frame) then unless (field_fault kind frame) (message_in kind frame)
     else Err (fault form.Length 0)
 
 -- the message that the bytes spell, or how they break the form of a frame

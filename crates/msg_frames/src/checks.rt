@@ -1,14 +1,19 @@
+//! The first fault of the fields of a frame, in the order of their offsets.
+
 ghost use Rattle.std.specs.Prelude.{◌≡◌, ◌+◌, ◌<◌, ◌≤◌, length, take, drop, true};
-ghost use Rattle.msg_frames.specs.Reading.{fault, rule, zeros, reserved, is_stray, unmasked_zeros, is_poked_csr, open_checks, poke_checks, target_checks, piece_checks, write_checks, has_trap, has_rd, cause_checks, rd_checks, value_checks, retire_checks, end_checks, checks};
+ghost use Rattle.msg_frames.specs.Reading.{fault, rule, zeros, reserved, is_stray, unmasked_zeros, open_fault, poke_fault, target_fault, piece_fault, write_fault, has_trap, has_rd, cause_fault, rd_fault, value_fault, retire_fault, end_fault, field_fault};
+ghost use Rattle.msg_frames.specs.Frames.{is_poked_csr};
 ghost use Rattle.msg_frames.specs.Kinds.{has_length};
+ghost use Rattle.tandem_base.specs.FirstFault.{passed};
 ghost use Rattle.msg_frames.specs.Fields.{u16_in};
 
 use super::fields::{u16_in, u64_in};
 use super::kinds::Kind;
 use super::message::{Form, FrameFault};
+use tandem_base::csrs::{MCAUSE, MEPC, MIE, MSCRATCH, MSTATUS, MTVAL, MTVEC};
 
 /// The fault of this form at this offset.
-pub fn fault(form: Form, offset: u16) -> FrameFault
+pub(crate) fn fault(form: Form, offset: u16) -> FrameFault
     ensures { result ≡ fault form offset }
 {
     FrameFault { form, offset }
@@ -16,7 +21,7 @@ pub fn fault(form: Form, offset: u16) -> FrameFault
 
 /// A rule of the field at an offset.
 fn rule(form: Form, at: u16, holds: bool) -> Result<(), FrameFault>
-    ensures { result ≡ rule form at holds }
+    ensures { result ≡ passed (rule form at holds) }
 {
     if holds { Ok(()) } else { Err(fault(form, at)) }
 }
@@ -24,7 +29,7 @@ fn rule(form: Form, at: u16, holds: bool) -> Result<(), FrameFault>
 /// These bytes, the first at offset `at`, have to be 0.
 fn zeros(at: u16, bytes: &[u8]) -> Result<(), FrameFault>
     requires { at + length bytes.now ≤ 514 }
-    ensures { result ≡ zeros at bytes.now }
+    ensures { result ≡ passed (zeros at bytes.now) }
 {
     for (k, byte) in bytes.iter().enumerate() {
         if *byte != 0 {
@@ -38,7 +43,7 @@ fn zeros(at: u16, bytes: &[u8]) -> Result<(), FrameFault>
 fn reserved(at: u16, count: u16, frame: &[u8]) -> Result<(), FrameFault>
     requires inside { at + count ≤ length frame.now }
     requires sized { length frame.now ≤ 514 }
-    ensures { result ≡ reserved at count frame.now }
+    ensures { result ≡ passed (reserved at count frame.now) }
 {
     zeros(at, &frame[usize::from(at)..usize::from(at + count)])
 }
@@ -54,7 +59,7 @@ fn is_stray(mask: u64, k: u8, byte: u8) -> bool
 /// The bytes of a line, the first at offset 36, have to be 0 outside the mask.
 pub fn unmasked_zeros(mask: u64, bytes: &[u8]) -> Result<(), FrameFault>
     requires { length bytes.now ≤ 64 }
-    ensures { result ≡ unmasked_zeros mask 0 bytes.now }
+    ensures { result ≡ passed (unmasked_zeros mask 0 bytes.now) }
 {
     for (k, byte) in bytes.iter().enumerate() {
         if is_stray(mask, k as u8, *byte) {
@@ -64,9 +69,10 @@ pub fn unmasked_zeros(mask: u64, bytes: &[u8]) -> Result<(), FrameFault>
     Ok(())
 }
 
-fn open_checks(frame: &[u8]) -> Result<(), FrameFault>
+/// The fields of an Open.
+fn check_open(frame: &[u8]) -> Result<(), FrameFault>
     requires { length frame.now ≡ 28 }
-    ensures { result ≡ open_checks frame.now }
+    ensures { result ≡ passed (open_fault frame.now) }
 {
     reserved(3, 1, frame)?;
     reserved(12, 8, frame)?;
@@ -77,19 +83,20 @@ fn open_checks(frame: &[u8]) -> Result<(), FrameFault>
     reserved(24, 4, frame)
 }
 
-/// The CSRs that a Poke may set.
+/// Whether a Poke may set the CSR of this number.
 pub fn is_poked_csr(number: u16) -> bool
     ensures { result ≡ is_poked_csr number }
 {
     matches!(
         number,
-        0x300 | 0x304 | 0x305 | 0x340 | 0x341 | 0x342 | 0x343
+        MSTATUS | MIE | MTVEC | MSCRATCH | MEPC | MCAUSE | MTVAL
     )
 }
 
-fn target_checks(target: u8, frame: &[u8]) -> Result<(), FrameFault>
+/// The number and the value that go with a target.
+fn check_target(target: u8, frame: &[u8]) -> Result<(), FrameFault>
     requires { length frame.now ≡ 32 }
-    ensures { result ≡ target_checks target frame.now }
+    ensures { result ≡ passed (target_fault target frame.now) }
 {
     match target {
         0 => {
@@ -104,19 +111,21 @@ fn target_checks(target: u8, frame: &[u8]) -> Result<(), FrameFault>
     }
 }
 
-fn poke_checks(frame: &[u8]) -> Result<(), FrameFault>
+/// The fields of a Poke.
+fn check_poke(frame: &[u8]) -> Result<(), FrameFault>
     requires { length frame.now ≡ 32 }
-    ensures { result ≡ poke_checks frame.now }
+    ensures { result ≡ passed (poke_fault frame.now) }
 {
     reserved(12, 8, frame)?;
     rule(Form::Field, 20, frame[20] <= 2)?;
     reserved(21, 1, frame)?;
-    target_checks(frame[20], frame)
+    check_target(frame[20], frame)
 }
 
-fn piece_checks(frame: &[u8]) -> Result<(), FrameFault>
+/// How many bytes of memory there are.
+fn check_piece(frame: &[u8]) -> Result<(), FrameFault>
     requires { 30 ≤ length frame.now }
-    ensures { result ≡ piece_checks frame.now }
+    ensures { result ≡ passed (piece_fault frame.now) }
 {
     rule(
         Form::Field,
@@ -125,9 +134,10 @@ fn piece_checks(frame: &[u8]) -> Result<(), FrameFault>
     )
 }
 
-fn write_checks(frame: &[u8]) -> Result<(), FrameFault>
+/// The fields of a Write.
+fn check_write(frame: &[u8]) -> Result<(), FrameFault>
     requires { length frame.now ≡ 100 }
-    ensures { result ≡ write_checks frame.now }
+    ensures { result ≡ passed (write_fault frame.now) }
 {
     reserved(12, 8, frame)?;
     rule(Form::Field, 20, u64_in(20, frame) % 64 == 0)?;
@@ -150,10 +160,12 @@ pub fn has_rd(frame: &[u8]) -> bool
     frame[40] / 2 % 2 == 1
 }
 
-fn cause_checks(frame: &[u8]) -> Result<(), FrameFault>
+/// The cause of a trap.
+#[tactic(auto, unfolding(crate::specs::Reading::cause_fault))]
+fn check_cause(frame: &[u8]) -> Result<(), FrameFault>
     requires low { 52 ≤ length frame.now }
     requires high { length frame.now ≤ 514 }
-    ensures { result ≡ cause_checks frame.now }
+    ensures { result ≡ passed (cause_fault frame.now) }
 {
     if has_trap(frame) {
         Ok(())
@@ -162,10 +174,12 @@ fn cause_checks(frame: &[u8]) -> Result<(), FrameFault>
     }
 }
 
-fn rd_checks(frame: &[u8]) -> Result<(), FrameFault>
+/// The number of the register.
+#[tactic(auto, unfolding(crate::specs::Reading::rd_fault))]
+fn check_rd(frame: &[u8]) -> Result<(), FrameFault>
     requires low { 52 ≤ length frame.now }
     requires high { length frame.now ≤ 514 }
-    ensures { result ≡ rd_checks frame.now }
+    ensures { result ≡ passed (rd_fault frame.now) }
 {
     if has_rd(frame) {
         rule(Form::Field, 42, 1 <= frame[42] && frame[42] <= 31)
@@ -174,10 +188,12 @@ fn rd_checks(frame: &[u8]) -> Result<(), FrameFault>
     }
 }
 
-fn value_checks(frame: &[u8]) -> Result<(), FrameFault>
+/// The value of the register.
+#[tactic(auto, unfolding(crate::specs::Reading::value_fault))]
+fn check_value(frame: &[u8]) -> Result<(), FrameFault>
     requires low { 52 ≤ length frame.now }
     requires high { length frame.now ≤ 514 }
-    ensures { result ≡ value_checks frame.now }
+    ensures { result ≡ passed (value_fault frame.now) }
 {
     if has_rd(frame) {
         Ok(())
@@ -186,43 +202,45 @@ fn value_checks(frame: &[u8]) -> Result<(), FrameFault>
     }
 }
 
-fn retire_checks(frame: &[u8]) -> Result<(), FrameFault>
+/// The fields of a Retire.
+fn check_retire(frame: &[u8]) -> Result<(), FrameFault>
     requires low { 52 ≤ length frame.now }
     requires high { length frame.now ≤ 514 }
-    ensures { result ≡ retire_checks frame.now }
+    ensures { result ≡ passed (retire_fault frame.now) }
 {
     rule(Form::Reserved, 40, frame[40] < 4)?;
-    cause_checks(frame)?;
-    rd_checks(frame)?;
+    check_cause(frame)?;
+    check_rd(frame)?;
     rule(
         Form::Field,
         43,
         50 + 10 * u16::from(frame[43]) == u16_in(0, frame),
     )?;
-    value_checks(frame)
+    check_value(frame)
 }
 
-fn end_checks(frame: &[u8]) -> Result<(), FrameFault>
+/// The hart and the tag of an End.
+fn check_end(frame: &[u8]) -> Result<(), FrameFault>
     requires { length frame.now ≡ 20 }
-    ensures { result ≡ end_checks frame.now }
+    ensures { result ≡ passed (end_fault frame.now) }
 {
     reserved(3, 1, frame)?;
     reserved(12, 8, frame)
 }
 
 /// The first fault of the fields.
-pub fn checks(kind: Kind, frame: &[u8]) -> Result<(), FrameFault>
+pub fn check_fields(kind: Kind, frame: &[u8]) -> Result<(), FrameFault>
     requires whole { length frame.now ≡ u16_in 0 frame.now + 2 }
     requires kind { has_length kind (u16_in 0 frame.now) ≡ true }
-    ensures { result ≡ checks kind frame.now }
+    ensures { result ≡ passed (field_fault kind frame.now) }
 {
     match kind {
-        Kind::Open => open_checks(frame),
-        Kind::Poke => poke_checks(frame),
-        Kind::Read | Kind::Insert | Kind::Bypass => piece_checks(frame),
-        Kind::Write => write_checks(frame),
-        Kind::Retire => retire_checks(frame),
+        Kind::Open => check_open(frame),
+        Kind::Poke => check_poke(frame),
+        Kind::Read | Kind::Insert | Kind::Bypass => check_piece(frame),
+        Kind::Write => check_write(frame),
+        Kind::Retire => check_retire(frame),
         Kind::Squash => Ok(()),
-        Kind::End => end_checks(frame),
+        Kind::End => check_end(frame),
     }
 }

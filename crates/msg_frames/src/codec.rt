@@ -1,10 +1,12 @@
-ghost use Rattle.std.specs.Prelude.{◌≡◌, Ok, IfOk};
+//! How frames are decoded.
+
+ghost use Rattle.std.specs.Prelude.{◌≡◌, Ok, IfOk, IfErr, OnOk, OnErr};
 ghost use Rattle.msg_frames.specs.declared.message.Message.{Message};
 ghost use Rattle.msg_frames.specs.Frames.{Spells};
 ghost use Rattle.msg_frames.specs.Reading.{reading};
 
 use super::message::{FrameFault, Message};
-use super::reading::read;
+use super::reading::read_into;
 
 /// The message that a whole frame spells, its two length bytes included, and else how the bytes
 /// break the form of a frame.
@@ -16,5 +18,19 @@ pub fn decode(frame: &[u8]) -> Result<Message, FrameFault>
     ensures found { IfOk result (Spells frame.now) }
     ensures only { (message : Message) → Spells frame.now message → result ≡ Ok message }
 {
-    read(frame)
+    let mut message = Message::blank();
+    read_into(frame, &mut message)?;
+    Ok(message)
+}
+
+/// As `decode`, into a message that is lent: it is made the one that the frame spells. Where the
+/// bytes break the form of a frame it stays as it is.
+pub fn decode_into(frame: &[u8], message: &mut Message) -> Result<(), FrameFault>
+    ensures value { OnOk result (reading frame.now ≡ Ok message.new) }
+    ensures found { OnOk result (Spells frame.now message.new) }
+    ensures fault { IfErr result (λ fault. reading frame.now ≡ Err fault) }
+    ensures kept { OnErr result (message.new ≡ message.old) }
+    ensures only { (m : Message) → Spells frame.now m → (result ≡ Ok tt) × (message.new ≡ m) }
+{
+    read_into(frame, message)
 }

@@ -1,3 +1,5 @@
+//! The CSRs that an instruction wrote.
+
 ghost use Rattle.std.specs.Prelude.{◌≡◌, ◌<◌, ◌≤◌, ◌++◌, ◌∷◌, [], length, slice_get};
 
 use arrayvec::ArrayVec;
@@ -6,7 +8,9 @@ use std::marker::Model;
 /// The value that a CSR was left with.
 #[derive(Clone, Copy, Debug, Default, PartialEq, Eq)]
 pub struct CsrValue {
+    /// The number of the CSR.
     pub number: u16,
+    /// The value that it was left with.
     pub value: u64,
 }
 
@@ -44,6 +48,13 @@ impl CsrList {
         ensures { self.new ≡ self.old ++ item ∷ [] }
     {
         self.items.push(item);
+    }
+
+    /// Takes all of them out.
+    pub(crate) fn clear(&mut self)
+        ensures { self.new ≡ [] }
+    {
+        self.items.clear();
     }
 
     /// How many there are, at most four.

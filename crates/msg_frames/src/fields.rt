@@ -1,3 +1,5 @@
+//! Numbers in a frame at their offsets.
+
 ghost use Rattle.std.specs.Prelude.{◌≡◌, ◌+◌, ◌≤◌, length};
 ghost use Rattle.msg_frames.specs.Fields.{u16_in, u32_in, u64_in};
 

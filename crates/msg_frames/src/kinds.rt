@@ -1,3 +1,5 @@
+//! The kinds of frames.
+
 ghost use Rattle.std.specs.Prelude.{◌≡◌};
 ghost use Rattle.msg_frames.specs.Kinds.{kind_coded, kind_of, code_of, has_length};
 

@@ -3,20 +3,22 @@
 
 mod checks;
 mod codec;
-pub mod csrs;
+mod csrs;
 mod encoding;
 mod fields;
 mod kinds;
+mod laws;
 mod list;
-pub mod message;
+mod message;
 mod reading;
 mod rules;
 mod sizes;
 mod source;
 
-pub use codec::decode;
+pub use codec::{decode, decode_into};
 pub use csrs::{CsrList, CsrValue};
 pub use encoding::encode;
+pub use laws::streams_are_cut_frame_by_frame;
 pub use list::MessageList;
 pub use message::{
     Body, Form, FrameFault, Head, LineWrite, Message, OpenInfo, Piece, Poke, RdValue, Retire,
@@ -24,7 +26,7 @@ pub use message::{
 };
 pub use rules::well_formed;
 pub use sizes::size;
-pub use source::{Next, next_message, next_message_in};
+pub use source::{Arrived, Next, next_message, next_message_into};
 
 #[cfg(test)]
 mod tests;

@@ -1,3 +1,5 @@
+//! Lists of messages.
+
 ghost use Rattle.std.specs.Prelude.{◌≡◌, [], ◌∷◌, ◌++◌, length, OnOk, OnErr, slice_get};
 ghost use Rattle.std.specs.Option.{option_copied};
 
@@ -44,6 +46,13 @@ impl MessageList {
         ensures { result ≡ length self.now }
     {
         self.items.len()
+    }
+
+    /// All of them, in their order.
+    pub fn as_slice(&self) -> &[Message]
+        ensures { result.now ≡ self.now }
+    {
+        self.items.as_slice()
     }
 
     /// Message `k`, counted from 0. None exactly where `k` isn't below the length.

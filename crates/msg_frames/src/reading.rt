@@ -1,9 +1,14 @@
-ghost use Rattle.std.specs.Prelude.{◌≡◌, ◌+◌, ◌*◌, ◌≤◌, length, true, take, drop, Ok};
+//! How a message is read from a frame, into a place that is lent.
+
+ghost use Rattle.std.specs.Prelude.{◌≡◌, ◌+◌, ◌*◌, ◌≤◌, length, true, take, drop};
+ghost use Rattle.std.specs.Prelude.{None, Ok, Err, OnOk, OnErr, IfOk, IfErr};
 ghost use Rattle.msg_frames.specs.Fields.{u16_in, byte_in};
 ghost use Rattle.msg_frames.specs.Kinds.{has_length};
-ghost use Rattle.msg_frames.specs.Reading.{head_in, open_in, target_in, poke_in, piece_in, write_in, csrs_in, retire_in, body_in, message_in, checks, is_length, is_whole, reading};
+ghost use Rattle.msg_frames.specs.Reading.{head_in, open_in, target_in, poke_in, piece_in, write_in, csrs_in};
+ghost use Rattle.msg_frames.specs.Reading.{trap_in, rd_in, retire_in, body_in, message_in, field_fault};
+ghost use Rattle.msg_frames.specs.Reading.{is_length, is_whole, reading};
 
-use super::checks::{checks, fault, has_rd, has_trap};
+use super::checks::{check_fields, fault, has_rd, has_trap};
 use super::csrs::{CsrList, CsrValue};
 use super::fields::{u16_in, u32_in, u64_in};
 use super::kinds::{Kind, kind_coded};
@@ -80,13 +85,13 @@ fn write_in(frame: &[u8]) -> LineWrite
     }
 }
 
-/// So many CSRs of ten bytes each.
-fn csrs_in(count: u8, bytes: &[u8]) -> CsrList
+/// Puts so many CSRs of ten bytes each into a list in place of what it held.
+fn csrs_into(count: u8, bytes: &[u8], list: &mut CsrList)
     requires few { count ≤ 4 }
     requires whole { 10 * count ≤ length bytes.now }
-    ensures { result ≡ csrs_in count bytes.now }
+    ensures { list.new ≡ csrs_in count bytes.now }
 {
-    let mut list = CsrList::new();
+    list.clear();
     let mut rest = bytes;
     for _ in 0..count {
         list.push(CsrValue {
@@ -95,58 +100,81 @@ fn csrs_in(count: u8, bytes: &[u8]) -> CsrList
         });
         rest = rest.split_at(10).1;
     }
-    list
 }
 
-fn retire_in(frame: &[u8]) -> Retire
-    requires few { byte_in 43 frame.now ≤ 4 }
-    requires whole { 52 + 10 * byte_in 43 frame.now ≤ length frame.now }
-    ensures { result ≡ retire_in frame.now }
+/// The cause of the trap that a Retire says it had.
+fn trap_in(frame: &[u8]) -> Option<u8>
+    requires { 52 ≤ length frame.now }
+    ensures { result ≡ trap_in frame.now }
 {
-    let trap = if has_trap(frame) {
+    if has_trap(frame) {
         Some(frame[41])
     } else {
         None
-    };
-    let rd = if has_rd(frame) {
+    }
+}
+
+/// The register that a Retire says it wrote.
+fn rd_in(frame: &[u8]) -> Option<RdValue>
+    requires { 52 ≤ length frame.now }
+    ensures { result ≡ rd_in frame.now }
+{
+    if has_rd(frame) {
         Some(RdValue {
             number: frame[42],
             value: u64_in(44, frame),
         })
     } else {
         None
-    };
-    Retire {
-        pc: u64_in(20, frame),
-        word: u32_in(28, frame),
-        next: u64_in(32, frame),
-        trap,
-        rd,
-        csrs: csrs_in(frame[43], frame.split_at(52).1),
     }
 }
 
-/// The message in a frame whose fields keep their rules.
-fn message_in(kind: Kind, frame: &[u8]) -> Message
+/// Overwrites a Retire by that of a frame.
+fn retire_into(frame: &[u8], retire: &mut Retire)
+    requires few { byte_in 43 frame.now ≤ 4 }
+    requires whole { 52 + 10 * byte_in 43 frame.now ≤ length frame.now }
+    ensures { retire.new ≡ retire_in frame.now }
+{
+    retire.pc = u64_in(20, frame);
+    retire.word = u32_in(28, frame);
+    retire.next = u64_in(32, frame);
+    retire.trap = trap_in(frame);
+    retire.rd = rd_in(frame);
+    csrs_into(frame[43], frame.split_at(52).1, &mut retire.csrs);
+}
+
+/// Makes a body the Retire of a frame. One that is a Retire already is overwritten where it lies.
+fn retire_body(frame: &[u8], body: &mut Body)
+    requires few { byte_in 43 frame.now ≤ 4 }
+    requires whole { 52 + 10 * byte_in 43 frame.now ≤ length frame.now }
+    ensures { body.new ≡ Body.Retire (retire_in frame.now) }
+{
+    if let Body::Retire(retire) = body {
+        retire_into(frame, retire);
+        return;
+    }
+    let mut retire = Retire::blank();
+    retire_into(frame, &mut retire);
+    *body = Body::Retire(retire);
+}
+
+/// Makes a body that of a frame whose fields keep their rules.
+fn body_into(kind: Kind, frame: &[u8], body: &mut Body)
     requires whole { length frame.now ≡ u16_in 0 frame.now + 2 }
     requires kind { has_length kind (u16_in 0 frame.now) ≡ true }
-    requires checked { checks kind frame.now ≡ Ok tt }
-    ensures { result ≡ message_in kind frame.now }
+    requires checked { field_fault kind frame.now ≡ None }
+    ensures { body.new ≡ body_in kind frame.now }
 {
-    let body = match kind {
-        Kind::Open => Body::Open(open_in(frame)),
-        Kind::Poke => Body::Poke(poke_in(frame)),
-        Kind::Read => Body::Read(piece_in(frame)),
-        Kind::Insert => Body::Insert(piece_in(frame)),
-        Kind::Write => Body::Write(write_in(frame)),
-        Kind::Bypass => Body::Bypass(piece_in(frame)),
-        Kind::Retire => Body::Retire(retire_in(frame)),
-        Kind::Squash => Body::Squash,
-        Kind::End => Body::End,
-    };
-    Message {
-        head: head_in(frame),
-        body,
+    match kind {
+        Kind::Open => *body = Body::Open(open_in(frame)),
+        Kind::Poke => *body = Body::Poke(poke_in(frame)),
+        Kind::Read => *body = Body::Read(piece_in(frame)),
+        Kind::Insert => *body = Body::Insert(piece_in(frame)),
+        Kind::Write => *body = Body::Write(write_in(frame)),
+        Kind::Bypass => *body = Body::Bypass(piece_in(frame)),
+        Kind::Retire => retire_body(frame, body),
+        Kind::Squash => *body = Body::Squash,
+        Kind::End => *body = Body::End,
     }
 }
 
@@ -168,10 +196,15 @@ fn is_whole(frame: &[u8]) -> bool
     is_length(length) && frame.len() == usize::from(length) + 2
 }
 
-/// The message that the bytes spell, or how they break the form of a frame.
+/// The kind of a frame that spells a message, and else the first fault of the frame.
 #[tactic(auto, unfolding(crate::specs::Reading::reading, crate::specs::Reading::reading_of))]
-pub fn read(frame: &[u8]) -> Result<Message, FrameFault>
-    ensures { result ≡ reading frame.now }
+fn kind_in(frame: &[u8]) -> Result<Kind, FrameFault>
+    ensures read { IfOk result (λ kind. reading frame.now ≡ Ok (message_in kind frame.now)) }
+    ensures whole { OnOk result (length frame.now ≡ u16_in 0 frame.now + 2) }
+    ensures low { OnOk result (20 ≤ length frame.now) }
+    ensures kind { IfOk result (λ kind. has_length kind (u16_in 0 frame.now) ≡ true) }
+    ensures checked { IfOk result (λ kind. field_fault kind frame.now ≡ None) }
+    ensures fault { IfErr result (λ fault. reading frame.now ≡ Err fault) }
 {
     if !is_whole(frame) {
         return Err(fault(Form::Length, 0));
@@ -182,6 +215,18 @@ pub fn read(frame: &[u8]) -> Result<Message, FrameFault>
     if !kind.has_length(u16_in(0, frame)) {
         return Err(fault(Form::Length, 0));
     }
-    checks(kind, frame)?;
-    Ok(message_in(kind, frame))
+    check_fields(kind, frame)?;
+    Ok(kind)
+}
+
+/// Makes a message the one that the bytes spell. Where they break the form of a frame it stays.
+pub fn read_into(frame: &[u8], message: &mut Message) -> Result<(), FrameFault>
+    ensures read { OnOk result (reading frame.now ≡ Ok message.new) }
+    ensures fault { IfErr result (λ fault. reading frame.now ≡ Err fault) }
+    ensures kept { OnErr result (message.new ≡ message.old) }
+{
+    let kind = kind_in(frame)?;
+    message.head = head_in(frame);
+    body_into(kind, frame, &mut message.body);
+    Ok(())
 }

@@ -1,3 +1,5 @@
+//! The rules that the fields of a message keep.
+
 ghost use Rattle.std.specs.Prelude.{◌≡◌, ◌<◌, ◌↔◌, ℕ, IsTrue, length, slice_index};
 ghost use Rattle.msg_frames.specs.Frames.{mask_bit, FitsOpen, FitsTarget, FitsWrite, FitsRetire, FitsPiece, FitsBody, Fits};
 

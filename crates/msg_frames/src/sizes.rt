@@ -1,3 +1,5 @@
+//! The sizes of frames.
+
 ghost use Rattle.std.specs.Prelude.{◌≡◌, ◌≤◌, length};
 ghost use Rattle.msg_frames.specs.Frames.{body_bytes, frame};
 

@@ -7,7 +7,11 @@ abbrev pub ◌or_else◌ : {X : Type 0} → Option X → Option X → Option X
 None or_else later = later
 (Some fault) or_else later = Some fault
 
+-- the value where there is no fault, and else the fault
+abbrev pub unless : {F X : Type 0} → Option F → X → Result X F
+unless None value = Ok value
+unless (Some fault) value = Err fault
+
 -- no fault is Ok, and a fault is an error
 abbrev pub passed : {F : Type 0} → Option F → Result (Unit {0}) F
-passed None = Ok tt
-passed (Some fault) = Err fault
+passed fault = unless fault tt

@@ -1,6 +1,6 @@
 use Rattle.std.proofs.Common.{◌≡◌, ◌-◌, ◌*◌, ◌≤◌, ◌++◌, length}
 use Rattle.msg_frames.specs.Reading.{csrs_in}
-use Rattle.msg_frames.proofs.reading.csrs_in.Given as goal
+use Rattle.msg_frames.proofs.reading.csrs_into.Given as goal
 
 abbrev pub invariant-loop : goal.invariant-loop
 invariant-loop l = record {

@@ -1,7 +1,7 @@
 use Rattle.std.proofs.Common.{arith}
 use Rattle.std.proofs.lemmas.Grind.{common_steps}
 use Rattle.msg_frames.proofs.Lists.{csrs_in_step}
-use Rattle.msg_frames.proofs.reading.csrs_in.Goals as goal
+use Rattle.msg_frames.proofs.reading.csrs_into.Goals as goal
 
 pub loop-preserved : goal.loop-preserved
 loop-preserved c = record {
