@@ -1,3 +1,5 @@
-pub mod BranchFields
 pub mod Opcodes
 pub mod Range
+pub mod Found
+pub mod TwosComplement
+pub mod Only

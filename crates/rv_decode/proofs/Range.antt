@@ -23,48 +23,49 @@ use Rattle.rv_decode.specs.declared.instruction.Insn.TheVariants.{Lui, Auipc, Ja
 use Rattle.rv_decode.specs.declared.instruction.Insn.TheVariants.{Alu, Fence, Ecall, Ebreak, Mret, Wfi, Csr, Lr, Sc}
 use Rattle.rv_decode.specs.declared.instruction.Insn.TheVariants.{Amo}
 
-branch_funct3-lt : (op : BranchOp) → branch_funct3 op < 8
+pub branch_funct3-lt : (op : BranchOp) → branch_funct3 op < 8
 branch_funct3-lt branch.Beq = omega arith
 branch_funct3-lt _ = omega arith
 
-load_funct3-lt : (op : LoadOp) → load_funct3 op < 8
+pub load_funct3-lt : (op : LoadOp) → load_funct3 op < 8
 load_funct3-lt load.Lb = omega arith
 load_funct3-lt _ = omega arith
 
-store_funct3-lt : (op : StoreOp) → store_funct3 op < 8
+pub store_funct3-lt : (op : StoreOp) → store_funct3 op < 8
 store_funct3-lt store.Sb = omega arith
 store_funct3-lt _ = omega arith
 
-csr_funct3-lt : (op : CsrOp) → csr_funct3 op < 8
+pub csr_funct3-lt : (op : CsrOp) → csr_funct3 op < 8
 csr_funct3-lt csr.Rw = omega arith
 csr_funct3-lt _ = omega arith
 
-amo_funct5-lt : (op : AmoOp) → amo_funct5 op < 32
+pub amo_funct5-lt : (op : AmoOp) → amo_funct5 op < 32
 amo_funct5-lt amo.Swap = omega arith
 amo_funct5-lt _ = omega arith
 
-atomic_funct3-lt : (wide : Bool) → atomic_funct3 wide < 8
+pub atomic_funct3-lt : (wide : Bool) → atomic_funct3 wide < 8
 atomic_funct3-lt false = omega arith
 atomic_funct3-lt true = omega arith
 
-bit-lt : (b : Bool) → bit b < 2
+pub bit-lt : (b : Bool) → bit b < 2
 bit-lt false = omega arith
 bit-lt true = omega arith
 
 -- the columns of an operation on registers fit their fields
-reg_row-lt : (op : RegOp) → ((reg_row op).funct7 < 128) × ((reg_row op).funct3 < 8) × ((reg_row op).opcode < 128)
+pub reg_row-lt : (op : RegOp) → ((reg_row op).funct7 < 128) × ((reg_row op).funct3 < 8) × ((reg_row op).opcode < 128)
 reg_row-lt reg_op.Add = (omega arith, omega arith, omega arith)
 reg_row-lt _ = (omega arith, omega arith, omega arith)
 
-amount-lt_6 : (imm : ℤ) → IsAmount 6 imm → field 6 imm < 64
+pub amount-lt_6 : (imm : ℤ) → IsAmount 6 imm → field 6 imm < 64
 amount-lt_6 (pos n) h = h
 amount-lt_6 (negsuc n) h = absurd h
 
-amount-lt_5 : (imm : ℤ) → IsAmount 5 imm → field 5 imm < 32
+pub amount-lt_5 : (imm : ℤ) → IsAmount 5 imm → field 5 imm < 32
 amount-lt_5 (pos n) h = h
 amount-lt_5 (negsuc n) h = absurd h
 
-imm_word-lt : (op : ImmOp) (imm : ℤ) (rs1 rd : ℕ) → IsOperand op imm → rs1 < 32 → rd < 32 → imm_word op imm rs1 rd < 2 ^ 32
+imm_word-lt : (op : ImmOp) (imm : ℤ) (rs1 rd : ℕ) → IsOperand op imm → rs1 < 32 → rd < 32 → imm_word op imm rs1 rd
+    < 2 ^ 32
 imm_word-lt imm_op.Addi imm rs1 rd h x y = omega arith
 imm_word-lt imm_op.Slti imm rs1 rd h x y = omega arith
 imm_word-lt imm_op.Sltiu imm rs1 rd h x y = omega arith

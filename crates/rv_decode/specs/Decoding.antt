@@ -82,36 +82,68 @@ j_imm word =
 
 -- ---- the operations of each form, by the columns of the listings
 
+-- the branches
+abbrev pub branch_ops : List BranchOp
+branch_ops = Beq ∷ Bne ∷ Blt ∷ Bge ∷ Bltu ∷ Bgeu ∷ []
+
+-- the one with this field
 abbrev pub branch_at : ℕ → Option BranchOp
-branch_at funct3 = find (λ op. branch_funct3 op == funct3) (Beq ∷ Bne ∷ Blt ∷ Bge ∷ Bltu ∷ Bgeu ∷ [])
+branch_at funct3 = find (λ op. branch_funct3 op == funct3) branch_ops
 
+-- the loads
+abbrev pub load_ops : List LoadOp
+load_ops = Lb ∷ Lh ∷ Lw ∷ Ld ∷ Lbu ∷ Lhu ∷ Lwu ∷ []
+
+-- the one with this field
 abbrev pub load_at : ℕ → Option LoadOp
-load_at funct3 = find (λ op. load_funct3 op == funct3) (Lb ∷ Lh ∷ Lw ∷ Ld ∷ Lbu ∷ Lhu ∷ Lwu ∷ [])
+load_at funct3 = find (λ op. load_funct3 op == funct3) load_ops
 
+-- the stores
+abbrev pub store_ops : List StoreOp
+store_ops = Sb ∷ Sh ∷ Sw ∷ Sd ∷ []
+
+-- the one with this field
 abbrev pub store_at : ℕ → Option StoreOp
-store_at funct3 = find (λ op. store_funct3 op == funct3) (Sb ∷ Sh ∷ Sw ∷ Sd ∷ [])
+store_at funct3 = find (λ op. store_funct3 op == funct3) store_ops
 
+-- the CSR instructions
+abbrev pub csr_ops : List CsrOp
+csr_ops = Rw ∷ Rs ∷ Rc ∷ Rwi ∷ Rsi ∷ Rci ∷ []
+
+-- the one with this field
 abbrev pub csr_at : ℕ → Option CsrOp
-csr_at funct3 = find (λ op. csr_funct3 op == funct3) (Rw ∷ Rs ∷ Rc ∷ Rwi ∷ Rsi ∷ Rci ∷ [])
+csr_at funct3 = find (λ op. csr_funct3 op == funct3) csr_ops
 
+-- the atomic operations
+abbrev pub amo_ops : List AmoOp
+amo_ops = amo.Swap ∷ amo.Add ∷ amo.Xor ∷ amo.And ∷ amo.Or ∷ amo.Min ∷ amo.Max ∷ amo.Minu ∷ amo.Maxu ∷ []
+
+-- the one with this field
 abbrev pub amo_at : ℕ → Option AmoOp
 amo_at funct5 =
     find (λ op. amo_funct5 op == funct5)
-    (amo.Swap ∷ amo.Add ∷ amo.Xor ∷ amo.And ∷ amo.Or ∷ amo.Min ∷ amo.Max ∷ amo.Minu ∷ amo.Maxu ∷ [])
+    amo_ops
 
+-- words, and doublewords
+abbrev pub widths : List Bool
+widths = false ∷ true ∷ []
+
+-- the one with this field
 abbrev pub width_at : ℕ → Option Bool
-width_at funct3 = find (λ wide. atomic_funct3 wide == funct3) (false ∷ true ∷ [])
+width_at funct3 = find (λ wide. atomic_funct3 wide == funct3) widths
 
 -- two lines of the listing are one
 abbrev pub same_row : Row → Row → Bool
 same_row a b = (a.funct7 == b.funct7) && (a.funct3 == b.funct3) && (a.opcode == b.opcode)
 
+-- the operations on registers
 abbrev pub reg_ops : List RegOp
 reg_ops =
     Add ∷ Sub ∷ Sll ∷ Slt ∷ Sltu ∷ Xor ∷ Srl ∷ Sra ∷ Or ∷ And
     ∷ Mul ∷ Mulh ∷ Mulhsu ∷ Mulhu ∷ Div ∷ Divu ∷ Rem ∷ Remu
     ∷ Addw ∷ Subw ∷ Sllw ∷ Srlw ∷ Sraw ∷ Mulw ∷ Divw ∷ Divuw ∷ Remw ∷ Remuw ∷ []
 
+-- the one of this line
 abbrev pub reg_at : Row → Option RegOp
 reg_at line = find (λ op. same_row (reg_row op) line) reg_ops
 
@@ -164,8 +196,8 @@ alu_imm_word_of word =
     else None
 
 -- the operations on registers, of 64 bits or of 32
-abbrev pub alu_of : ℕ → ℕ → Option Insn
-alu_of opcode word =
+abbrev pub alu_reg_of : ℕ → ℕ → Option Insn
+alu_reg_of opcode word =
     option_map (λ op. Alu op (rd_of word) (rs1_of word) (rs2_of word))
     (reg_at (row (funct7_of word) (funct3_of word) opcode))
 
@@ -213,8 +245,8 @@ decoding word =
     else if opcode_of word == 0b0100011 then store_of word
     else if opcode_of word == 0b0010011 then alu_imm_of word
     else if opcode_of word == 0b0011011 then alu_imm_word_of word
-    else if opcode_of word == 0b0110011 then alu_of 0b0110011 word
-    else if opcode_of word == 0b0111011 then alu_of 0b0111011 word
+    else if opcode_of word == 0b0110011 then alu_reg_of 0b0110011 word
+    else if opcode_of word == 0b0111011 then alu_reg_of 0b0111011 word
     else if opcode_of word == 0b0001111 then fence_of word
     else if opcode_of word == 0b1110011 then system_of word
     else if opcode_of word == 0b0101111 then atomic_of word

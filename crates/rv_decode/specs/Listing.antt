@@ -1,5 +1,5 @@
 -- The instruction words (chapter 24; MRET and WFI: Volume II, Privileged Instruction Set Listings).
-use Rattle.std.specs.Prelude.{◌≡◌, ℕ, ◌^◌, ◌<◌, Bool, true, false}
+use Rattle.std.specs.Prelude.{◌≡◌, ℕ, ◌^◌, ◌<◌}
 use Rattle.rv_decode.specs.Formats.{field, IsSigned, IsMultiple, r_type, i_type, s_type, b_type, u_type, j_type, a_type}
 use Rattle.rv_decode.specs.Formats.{fence_type}
 use Rattle.rv_decode.specs.Operations.{branch_funct3, load_funct3, store_funct3, imm_word, IsOperand, reg_row}
@@ -50,13 +50,6 @@ IsInsn (Csr op rd source number) = (rd < 32) × (source < 32) × (number < 2 ^ 1
 IsInsn (Lr wide aq rl rd rs1) = (rd < 32) × (rs1 < 32)
 IsInsn (Sc wide aq rl rd rs1 rs2) = (rd < 32) × (rs1 < 32) × (rs2 < 32)
 IsInsn (Amo op wide aq rl rd rs1 rs2) = (rd < 32) × (rs1 < 32) × (rs2 < 32)
-
--- LR, SC or an atomic operation
-abbrev pub is_atomic : Insn → Bool
-is_atomic (Lr wide aq rl rd rs1) = true
-is_atomic (Sc wide aq rl rd rs1 rs2) = true
-is_atomic (Amo op wide aq rl rd rs1 rs2) = true
-is_atomic _ = false
 
 -- the word is that of the instruction
 pub record Encodes (word : ℕ) (insn : Insn) : Type 0 where

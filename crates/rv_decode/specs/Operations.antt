@@ -45,37 +45,58 @@ store_funct3 Sh = 0b001
 store_funct3 Sw = 0b010
 store_funct3 Sd = 0b011
 
+-- what stands where an operation on an immediate has it: 12 signed bits; or, under funct6 or funct7, the amount of a
+-- shift on 64 bits, which has 6 bits, or on words, which has 5
+pub data ImmField : Type 0 where
+  signed_12 : ImmField
+  amount_6 : (funct6 : ℕ) → ImmField
+  amount_5 : (funct7 : ℕ) → ImmField
+
+-- the three columns of an operation on an immediate
+pub record ImmRow : Type 0 where
+  pub imm : ImmField
+  pub funct3 : ℕ
+  pub opcode : ℕ
+
+-- a line of the listing
+abbrev pub imm_line : ImmField → ℕ → ℕ → ImmRow
+imm_line imm funct3 opcode = record { imm = imm; funct3 = funct3; opcode = opcode }
+
+-- the operations on an immediate
+abbrev pub imm_row : ImmOp → ImmRow
+imm_row Addi = imm_line signed_12 0b000 0b0010011
+imm_row Slti = imm_line signed_12 0b010 0b0010011
+imm_row Sltiu = imm_line signed_12 0b011 0b0010011
+imm_row Xori = imm_line signed_12 0b100 0b0010011
+imm_row Ori = imm_line signed_12 0b110 0b0010011
+imm_row Andi = imm_line signed_12 0b111 0b0010011
+imm_row Slli = imm_line (amount_6 0b000000) 0b001 0b0010011
+imm_row Srli = imm_line (amount_6 0b000000) 0b101 0b0010011
+imm_row Srai = imm_line (amount_6 0b010000) 0b101 0b0010011
+imm_row Addiw = imm_line signed_12 0b000 0b0011011
+imm_row Slliw = imm_line (amount_5 0b0000000) 0b001 0b0011011
+imm_row Srliw = imm_line (amount_5 0b0000000) 0b101 0b0011011
+imm_row Sraiw = imm_line (amount_5 0b0100000) 0b101 0b0011011
+
+-- the immediates that the field holds
+abbrev pub IsHeld : ImmField → ℤ → Type 0
+IsHeld signed_12 imm = IsSigned 12 imm
+IsHeld (amount_6 funct6) imm = IsAmount 6 imm
+IsHeld (amount_5 funct7) imm = IsAmount 5 imm
+
+-- a word with the field
+abbrev pub word_with : ImmField → ℤ → ℕ → ℕ → ℕ → ℕ → ℕ
+word_with signed_12 imm rs1 funct3 rd opcode = i_type (field 12 imm) rs1 funct3 rd opcode
+word_with (amount_6 funct6) imm rs1 funct3 rd opcode = shift_type funct6 (field 6 imm) rs1 funct3 rd opcode
+word_with (amount_5 funct7) imm rs1 funct3 rd opcode = r_type funct7 (field 5 imm) rs1 funct3 rd opcode
+
+-- the immediates of an operation
+abbrev pub IsOperand : ImmOp → ℤ → Type 0
+IsOperand op imm = IsHeld (imm_row op).imm imm
+
 -- the word of an operation on an immediate, rs1 and rd
 abbrev pub imm_word : ImmOp → ℤ → ℕ → ℕ → ℕ
-imm_word Addi imm rs1 rd = i_type (field 12 imm) rs1 0b000 rd 0b0010011
-imm_word Slti imm rs1 rd = i_type (field 12 imm) rs1 0b010 rd 0b0010011
-imm_word Sltiu imm rs1 rd = i_type (field 12 imm) rs1 0b011 rd 0b0010011
-imm_word Xori imm rs1 rd = i_type (field 12 imm) rs1 0b100 rd 0b0010011
-imm_word Ori imm rs1 rd = i_type (field 12 imm) rs1 0b110 rd 0b0010011
-imm_word Andi imm rs1 rd = i_type (field 12 imm) rs1 0b111 rd 0b0010011
-imm_word Slli imm rs1 rd = shift_type 0b000000 (field 6 imm) rs1 0b001 rd 0b0010011
-imm_word Srli imm rs1 rd = shift_type 0b000000 (field 6 imm) rs1 0b101 rd 0b0010011
-imm_word Srai imm rs1 rd = shift_type 0b010000 (field 6 imm) rs1 0b101 rd 0b0010011
-imm_word Addiw imm rs1 rd = i_type (field 12 imm) rs1 0b000 rd 0b0011011
-imm_word Slliw imm rs1 rd = r_type 0b0000000 (field 5 imm) rs1 0b001 rd 0b0011011
-imm_word Srliw imm rs1 rd = r_type 0b0000000 (field 5 imm) rs1 0b101 rd 0b0011011
-imm_word Sraiw imm rs1 rd = r_type 0b0100000 (field 5 imm) rs1 0b101 rd 0b0011011
-
--- the immediates of an operation: 12 signed bits, or a shift amount of 6 bits, or of 5 on words
-abbrev pub IsOperand : ImmOp → ℤ → Type 0
-IsOperand Addi imm = IsSigned 12 imm
-IsOperand Slti imm = IsSigned 12 imm
-IsOperand Sltiu imm = IsSigned 12 imm
-IsOperand Xori imm = IsSigned 12 imm
-IsOperand Ori imm = IsSigned 12 imm
-IsOperand Andi imm = IsSigned 12 imm
-IsOperand Slli imm = IsAmount 6 imm
-IsOperand Srli imm = IsAmount 6 imm
-IsOperand Srai imm = IsAmount 6 imm
-IsOperand Addiw imm = IsSigned 12 imm
-IsOperand Slliw imm = IsAmount 5 imm
-IsOperand Srliw imm = IsAmount 5 imm
-IsOperand Sraiw imm = IsAmount 5 imm
+imm_word op imm rs1 rd = word_with (imm_row op).imm imm rs1 (imm_row op).funct3 rd (imm_row op).opcode
 
 -- the three columns of an operation on registers
 pub record Row : Type 0 where

@@ -12,15 +12,7 @@ use crate::fields::{aq, funct3, funct5, rd, rl, rs1, rs2};
 use crate::instruction::Insn;
 
 pub fn atomic(word: u32) -> Option<Insn>
-    requires { part word 6 0 ≡ 0b0101111 }
-    ensures is { result ≡ atomic_of word }
-    ensures found { IfSome result (Encodes word) }
-    ensures lr { (wide aq rl : Bool) (rd rs1 : ℕ)
-        → Encodes word (Lr wide aq rl rd rs1) → result ≡ Some (Lr wide aq rl rd rs1) }
-    ensures sc { (wide aq rl : Bool) (rd rs1 rs2 : ℕ)
-        → Encodes word (Sc wide aq rl rd rs1 rs2) → result ≡ Some (Sc wide aq rl rd rs1 rs2) }
-    ensures amo { (op : AmoOp) (wide aq rl : Bool) (rd rs1 rs2 : ℕ)
-        → Encodes word (Amo op wide aq rl rd rs1 rs2) → result ≡ Some (Amo op wide aq rl rd rs1 rs2) }
+    ensures { result ≡ atomic_of word }
 {
     let wide = width(funct3(word))?;
     let (aq, rl) = (aq(word), rl(word));

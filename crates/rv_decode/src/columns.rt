@@ -14,9 +14,7 @@ ghost use Rattle.rv_decode.specs.declared.operations.RegOp.{RegOp};
 use crate::operations::{AmoOp, BranchOp, CsrOp, LoadOp, RegOp, StoreOp};
 
 pub fn branch_op(funct3: u32) -> Option<BranchOp>
-    ensures is { result ≡ branch_at funct3 }
-    ensures found { IfSome result (λ op. funct3 ≡ branch_funct3 op) }
-    ensures only { (op : BranchOp) → funct3 ≡ branch_funct3 op → result ≡ Some op }
+    ensures { result ≡ branch_at funct3 }
 {
     match funct3 {
         0b000 => Some(BranchOp::Beq),
@@ -30,9 +28,7 @@ pub fn branch_op(funct3: u32) -> Option<BranchOp>
 }
 
 pub fn load_op(funct3: u32) -> Option<LoadOp>
-    ensures is { result ≡ load_at funct3 }
-    ensures found { IfSome result (λ op. funct3 ≡ load_funct3 op) }
-    ensures only { (op : LoadOp) → funct3 ≡ load_funct3 op → result ≡ Some op }
+    ensures { result ≡ load_at funct3 }
 {
     match funct3 {
         0b000 => Some(LoadOp::Lb),
@@ -47,9 +43,7 @@ pub fn load_op(funct3: u32) -> Option<LoadOp>
 }
 
 pub fn store_op(funct3: u32) -> Option<StoreOp>
-    ensures is { result ≡ store_at funct3 }
-    ensures found { IfSome result (λ op. funct3 ≡ store_funct3 op) }
-    ensures only { (op : StoreOp) → funct3 ≡ store_funct3 op → result ≡ Some op }
+    ensures { result ≡ store_at funct3 }
 {
     match funct3 {
         0b000 => Some(StoreOp::Sb),
@@ -61,9 +55,7 @@ pub fn store_op(funct3: u32) -> Option<StoreOp>
 }
 
 pub fn csr_op(funct3: u32) -> Option<CsrOp>
-    ensures is { result ≡ csr_at funct3 }
-    ensures found { IfSome result (λ op. funct3 ≡ csr_funct3 op) }
-    ensures only { (op : CsrOp) → funct3 ≡ csr_funct3 op → result ≡ Some op }
+    ensures { result ≡ csr_at funct3 }
 {
     match funct3 {
         0b001 => Some(CsrOp::Rw),
@@ -77,9 +69,7 @@ pub fn csr_op(funct3: u32) -> Option<CsrOp>
 }
 
 pub fn amo_op(funct5: u32) -> Option<AmoOp>
-    ensures is { result ≡ amo_at funct5 }
-    ensures found { IfSome result (λ op. funct5 ≡ amo_funct5 op) }
-    ensures only { (op : AmoOp) → funct5 ≡ amo_funct5 op → result ≡ Some op }
+    ensures { result ≡ amo_at funct5 }
 {
     match funct5 {
         0b00001 => Some(AmoOp::Swap),
@@ -97,9 +87,7 @@ pub fn amo_op(funct5: u32) -> Option<AmoOp>
 
 /// The operation on 64 bits.
 pub fn reg_op(funct7: u32, funct3: u32) -> Option<RegOp>
-    ensures is { result ≡ reg_at (row funct7 funct3 0b0110011) }
-    ensures found { IfSome result (λ op. reg_row op ≡ row funct7 funct3 0b0110011) }
-    ensures only { (op : RegOp) → reg_row op ≡ row funct7 funct3 0b0110011 → result ≡ Some op }
+    ensures { result ≡ reg_at (row funct7 funct3 0b0110011) }
 {
     match (funct7, funct3) {
         (0b0000000, 0b000) => Some(RegOp::Add),
@@ -126,9 +114,7 @@ pub fn reg_op(funct7: u32, funct3: u32) -> Option<RegOp>
 
 /// The operation on the low 32 bits.
 pub fn reg_op_word(funct7: u32, funct3: u32) -> Option<RegOp>
-    ensures is { result ≡ reg_at (row funct7 funct3 0b0111011) }
-    ensures found { IfSome result (λ op. reg_row op ≡ row funct7 funct3 0b0111011) }
-    ensures only { (op : RegOp) → reg_row op ≡ row funct7 funct3 0b0111011 → result ≡ Some op }
+    ensures { result ≡ reg_at (row funct7 funct3 0b0111011) }
 {
     match (funct7, funct3) {
         (0b0000000, 0b000) => Some(RegOp::Addw),
@@ -147,9 +133,7 @@ pub fn reg_op_word(funct7: u32, funct3: u32) -> Option<RegOp>
 
 /// Whether the atomic instruction is on doublewords.
 pub fn width(funct3: u32) -> Option<bool>
-    ensures is { result ≡ width_at funct3 }
-    ensures found { IfSome result (λ wide. funct3 ≡ atomic_funct3 wide) }
-    ensures only { (wide : Bool) → funct3 ≡ atomic_funct3 wide → result ≡ Some wide }
+    ensures { result ≡ width_at funct3 }
 {
     match funct3 {
         0b010 => Some(false),

@@ -1,3 +1,5 @@
+//! Words to instructions, by the opcode.
+
 ghost use Rattle.rv_decode.specs.Decoding.{decoding};
 ghost use Rattle.std.specs.Prelude.{◌≡◌, IfSome, IfNone};
 ghost use Rattle.rv_decode.specs.Listing.{Encodes};
@@ -13,12 +15,19 @@ use crate::integer::{
 
 /// The instruction that the word encodes (chapter 24). None exactly where there is no such instruction
 /// among those of [`Insn`]: the word is illegal then.
-#[tactic(auto, unfolding(crate::specs::Decoding::decoding))]
 pub fn decode(word: u32) -> Option<Insn>
     ensures is { result ≡ decoding word }
     ensures found { IfSome result (Encodes word) }
     ensures none { IfNone result ((i : Insn) → Encodes word i → ⊥) }
     ensures only { (i : Insn) → Encodes word i → result ≡ Some i }
+{
+    by_opcode(word)
+}
+
+/// The instruction of the word, by its opcode.
+#[tactic(auto, unfolding(crate::specs::Decoding::decoding))]
+fn by_opcode(word: u32) -> Option<Insn>
+    ensures { result ≡ decoding word }
 {
     match opcode(word) {
         0b0110111 => Some(lui(word)),

@@ -1,10 +1,13 @@
-ghost use Rattle.std.specs.Prelude.{◌≡◌, ◌<◌, ◌^◌, true};
-ghost use Rattle.rv_decode.specs.Listing.{word_of, is_atomic, IsInsn};
+//! Instructions to words.
+
+ghost use Rattle.std.specs.Prelude.{◌≡◌, ◌<◌};
+ghost use Rattle.rv_decode.specs.Listing.{word_of, IsInsn};
 ghost use Rattle.rv_decode.specs.Operations.{imm_word, IsOperand, reg_row};
 ghost use Rattle.rv_decode.specs.Formats.{r_type};
+ghost use Rattle.rv_decode.specs.declared.instruction.Insn.TheVariants.{Amo};
 
 use crate::instruction::Insn;
-use crate::operations::{ImmOp, RegOp};
+use crate::operations::{AmoOp, ImmOp, RegOp};
 use crate::rows::{
     funct3_of_branch, funct3_of_csr, funct3_of_load, funct3_of_store, funct3_of_width,
     funct5_of_amo, row_of,
@@ -52,23 +55,13 @@ pub fn encode(insn: &Insn) -> u32
             source,
             number,
         } => csr_word(number, source, funct3_of_csr(op), rd),
-        Insn::Lr { .. } | Insn::Sc { .. } | Insn::Amo { .. } => atomic_word(insn),
-    }
-}
-
-fn atomic_word(insn: &Insn) -> u32
-    requires fits { IsInsn insn.now }
-    requires atomic { is_atomic insn.now ≡ true }
-    ensures { result ≡ word_of insn.now }
-{
-    match *insn {
         Insn::Lr {
             wide,
             aq,
             rl,
             rd,
             rs1,
-        } => { a_word(0b00010, aq, rl, 0, rs1, funct3_of_width(wide), rd) }
+        } => a_word(0b00010, aq, rl, 0, rs1, funct3_of_width(wide), rd),
         Insn::Sc {
             wide,
             aq,
@@ -76,7 +69,7 @@ fn atomic_word(insn: &Insn) -> u32
             rd,
             rs1,
             rs2,
-        } => { a_word(0b00011, aq, rl, rs2, rs1, funct3_of_width(wide), rd) }
+        } => a_word(0b00011, aq, rl, rs2, rs1, funct3_of_width(wide), rd),
         Insn::Amo {
             op,
             wide,
@@ -85,21 +78,22 @@ fn atomic_word(insn: &Insn) -> u32
             rd,
             rs1,
             rs2,
-        } => {
-            a_word(
-                funct5_of_amo(op),
-                aq,
-                rl,
-                rs2,
-                rs1,
-                funct3_of_width(wide),
-                rd,
-            )
-        }
-        _ => unreachable!(),
+        } => amo_word(op, wide, aq, rl, rd, rs1, rs2),
     }
 }
 
+/// The word of an atomic operation.
+fn amo_word(op: AmoOp, wide: bool, aq: bool, rl: bool, rd: u8, rs1: u8, rs2: u8) -> u32
+    requires rd { rd < 32 }
+    requires rs1 { rs1 < 32 }
+    requires rs2 { rs2 < 32 }
+    ensures { result ≡ word_of (Amo op wide aq rl rd rs1 rs2) }
+{
+    let funct5 = funct5_of_amo(op);
+    a_word(funct5, aq, rl, rs2, rs1, funct3_of_width(wide), rd)
+}
+
+/// The word of an operation on an immediate.
 fn alu_imm_word(op: ImmOp, imm: i64, rs1: u8, rd: u8) -> u32
     requires imm { IsOperand op imm }
     requires rs1 { rs1 < 32 }
@@ -123,6 +117,7 @@ fn alu_imm_word(op: ImmOp, imm: i64, rs1: u8, rd: u8) -> u32
     }
 }
 
+/// The word of an operation on registers.
 fn alu_word(op: RegOp, rs2: u8, rs1: u8, rd: u8) -> u32
     requires rs2 { rs2 < 32 }
     requires rs1 { rs1 < 32 }

@@ -12,11 +12,7 @@ use crate::fields::{funct3, rd, rs1};
 use crate::instruction::Insn;
 
 pub fn fence(word: u32) -> Option<Insn>
-    requires { part word 6 0 ≡ 0b0001111 }
-    ensures is { result ≡ fence_of word }
-    ensures found { IfSome result (Encodes word) }
-    ensures only { (fm pred succ rd rs1 : ℕ)
-        → Encodes word (Fence fm pred succ rd rs1) → result ≡ Some (Fence fm pred succ rd rs1) }
+    ensures { result ≡ fence_of word }
 {
     match funct3(word) {
         0b000 => Some(Insn::Fence {
@@ -32,15 +28,7 @@ pub fn fence(word: u32) -> Option<Insn>
 
 /// A call or return of the environment, or a CSR instruction.
 pub fn system(word: u32) -> Option<Insn>
-    requires { part word 6 0 ≡ 0b1110011 }
-    ensures is { result ≡ system_of word }
-    ensures found { IfSome result (Encodes word) }
-    ensures ecall { Encodes word Ecall → result ≡ Some Ecall }
-    ensures ebreak { Encodes word Ebreak → result ≡ Some Ebreak }
-    ensures mret { Encodes word Mret → result ≡ Some Mret }
-    ensures wfi { Encodes word Wfi → result ≡ Some Wfi }
-    ensures csr { (op : CsrOp) (rd source number : ℕ)
-        → Encodes word (Csr op rd source number) → result ≡ Some (Csr op rd source number) }
+    ensures { result ≡ system_of word }
 {
     match word {
         0x0000_0073 => Some(Insn::Ecall),
@@ -52,11 +40,7 @@ pub fn system(word: u32) -> Option<Insn>
 }
 
 fn csr(word: u32) -> Option<Insn>
-    requires { part word 6 0 ≡ 0b1110011 }
-    ensures is { result ≡ csr_of word }
-    ensures found { IfSome result (Encodes word) }
-    ensures only { (op : CsrOp) (rd source number : ℕ)
-        → Encodes word (Csr op rd source number) → result ≡ Some (Csr op rd source number) }
+    ensures { result ≡ csr_of word }
 {
     let op = csr_op(funct3(word))?;
     Some(Insn::Csr {

@@ -60,15 +60,13 @@ pub fn amount(word: u32) -> i64
 }
 
 pub fn aq(word: u32) -> bool
-    ensures is { result ≡ aq_of word }
-    ensures bit { part word 26 26 ≡ bit result }
+    ensures { result ≡ aq_of word }
 {
     word >> 26 & 1 == 1
 }
 
 pub fn rl(word: u32) -> bool
-    ensures is { result ≡ rl_of word }
-    ensures bit { part word 25 25 ≡ bit result }
+    ensures { result ≡ rl_of word }
 {
     word >> 25 & 1 == 1
 }

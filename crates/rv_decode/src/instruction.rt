@@ -1,3 +1,5 @@
+//! Instructions.
+
 use crate::operations::{AmoOp, BranchOp, CsrOp, ImmOp, LoadOp, RegOp, StoreOp};
 
 /// An instruction.

@@ -1,8 +1,8 @@
 //! Words of one opcode, on registers and immediates.
 
 ghost use Rattle.rv_decode.specs.Decoding.{rd_of, u_imm, j_imm, jalr_of, branch_of, load_of, store_of, alu_imm_of};
-ghost use Rattle.rv_decode.specs.Decoding.{alu_imm_word_of, alu_of};
-ghost use Rattle.std.specs.Prelude.{◌≡◌, ℕ, ℤ, IfSome};
+ghost use Rattle.rv_decode.specs.Decoding.{alu_imm_word_of, alu_reg_of};
+ghost use Rattle.std.specs.Prelude.{◌≡◌};
 ghost use Rattle.rv_decode.specs.Formats.{part};
 ghost use Rattle.rv_decode.specs.Listing.{Encodes};
 ghost use Rattle.rv_decode.specs.declared.operations.BranchOp.{BranchOp};
@@ -20,10 +20,7 @@ use crate::instruction::Insn;
 use crate::operations::ImmOp;
 
 pub fn lui(word: u32) -> Insn
-    requires { part word 6 0 ≡ 0b0110111 }
-    ensures is { result ≡ Lui (rd_of word) (u_imm word) }
-    ensures found { Encodes word result }
-    ensures only { (rd : ℕ) (imm : ℤ) → Encodes word (Lui rd imm) → result ≡ Lui rd imm }
+    ensures { result ≡ Lui (rd_of word) (u_imm word) }
 {
     Insn::Lui {
         rd: rd(word),
@@ -32,10 +29,7 @@ pub fn lui(word: u32) -> Insn
 }
 
 pub fn auipc(word: u32) -> Insn
-    requires { part word 6 0 ≡ 0b0010111 }
-    ensures is { result ≡ Auipc (rd_of word) (u_imm word) }
-    ensures found { Encodes word result }
-    ensures only { (rd : ℕ) (imm : ℤ) → Encodes word (Auipc rd imm) → result ≡ Auipc rd imm }
+    ensures { result ≡ Auipc (rd_of word) (u_imm word) }
 {
     Insn::Auipc {
         rd: rd(word),
@@ -44,10 +38,7 @@ pub fn auipc(word: u32) -> Insn
 }
 
 pub fn jal(word: u32) -> Insn
-    requires { part word 6 0 ≡ 0b1101111 }
-    ensures is { result ≡ Jal (rd_of word) (j_imm word) }
-    ensures found { Encodes word result }
-    ensures only { (rd : ℕ) (imm : ℤ) → Encodes word (Jal rd imm) → result ≡ Jal rd imm }
+    ensures { result ≡ Jal (rd_of word) (j_imm word) }
 {
     Insn::Jal {
         rd: rd(word),
@@ -56,10 +47,7 @@ pub fn jal(word: u32) -> Insn
 }
 
 pub fn jalr(word: u32) -> Option<Insn>
-    requires { part word 6 0 ≡ 0b1100111 }
-    ensures is { result ≡ jalr_of word }
-    ensures found { IfSome result (Encodes word) }
-    ensures only { (rd rs1 : ℕ) (imm : ℤ) → Encodes word (Jalr rd rs1 imm) → result ≡ Some (Jalr rd rs1 imm) }
+    ensures { result ≡ jalr_of word }
 {
     match funct3(word) {
         0b000 => Some(Insn::Jalr {
@@ -72,11 +60,7 @@ pub fn jalr(word: u32) -> Option<Insn>
 }
 
 pub fn branch(word: u32) -> Option<Insn>
-    requires { part word 6 0 ≡ 0b1100011 }
-    ensures is { result ≡ branch_of word }
-    ensures found { IfSome result (Encodes word) }
-    ensures only { (op : BranchOp) (rs1 rs2 : ℕ) (imm : ℤ)
-        → Encodes word (Branch op rs1 rs2 imm) → result ≡ Some (Branch op rs1 rs2 imm) }
+    ensures { result ≡ branch_of word }
 {
     let op = branch_op(funct3(word))?;
     Some(Insn::Branch {
@@ -88,11 +72,7 @@ pub fn branch(word: u32) -> Option<Insn>
 }
 
 pub fn load(word: u32) -> Option<Insn>
-    requires { part word 6 0 ≡ 0b0000011 }
-    ensures is { result ≡ load_of word }
-    ensures found { IfSome result (Encodes word) }
-    ensures only { (op : LoadOp) (rd rs1 : ℕ) (imm : ℤ)
-        → Encodes word (Load op rd rs1 imm) → result ≡ Some (Load op rd rs1 imm) }
+    ensures { result ≡ load_of word }
 {
     let op = load_op(funct3(word))?;
     Some(Insn::Load {
@@ -104,11 +84,7 @@ pub fn load(word: u32) -> Option<Insn>
 }
 
 pub fn store(word: u32) -> Option<Insn>
-    requires { part word 6 0 ≡ 0b0100011 }
-    ensures is { result ≡ store_of word }
-    ensures found { IfSome result (Encodes word) }
-    ensures only { (op : StoreOp) (rs1 rs2 : ℕ) (imm : ℤ)
-        → Encodes word (Store op rs1 rs2 imm) → result ≡ Some (Store op rs1 rs2 imm) }
+    ensures { result ≡ store_of word }
 {
     let op = store_op(funct3(word))?;
     Some(Insn::Store {
@@ -133,11 +109,7 @@ fn alu_imm_of(op: ImmOp, word: u32, imm: i64) -> Insn
 
 /// An operation on 64 bits and an immediate.
 pub fn alu_imm(word: u32) -> Option<Insn>
-    requires { part word 6 0 ≡ 0b0010011 }
-    ensures is { result ≡ alu_imm_of word }
-    ensures found { IfSome result (Encodes word) }
-    ensures only { (op : ImmOp) (rd rs1 : ℕ) (imm : ℤ)
-        → Encodes word (AluImm op rd rs1 imm) → result ≡ Some (AluImm op rd rs1 imm) }
+    ensures { result ≡ alu_imm_of word }
 {
     let (imm, shift) = (i_immediate(word), amount(word));
     match (funct6(word), funct3(word)) {
@@ -156,11 +128,7 @@ pub fn alu_imm(word: u32) -> Option<Insn>
 
 /// An operation on the low 32 bits and an immediate.
 pub fn alu_imm_word(word: u32) -> Option<Insn>
-    requires { part word 6 0 ≡ 0b0011011 }
-    ensures is { result ≡ alu_imm_word_of word }
-    ensures found { IfSome result (Encodes word) }
-    ensures only { (op : ImmOp) (rd rs1 : ℕ) (imm : ℤ)
-        → Encodes word (AluImm op rd rs1 imm) → result ≡ Some (AluImm op rd rs1 imm) }
+    ensures { result ≡ alu_imm_word_of word }
 {
     let shift = i64::from(rs2(word));
     match (funct7(word), funct3(word)) {
@@ -174,11 +142,7 @@ pub fn alu_imm_word(word: u32) -> Option<Insn>
 
 /// An operation on 64 bits.
 pub fn alu(word: u32) -> Option<Insn>
-    requires { part word 6 0 ≡ 0b0110011 }
-    ensures is { result ≡ alu_of 0b0110011 word }
-    ensures found { IfSome result (Encodes word) }
-    ensures only { (op : RegOp) (rd rs1 rs2 : ℕ)
-        → Encodes word (Alu op rd rs1 rs2) → result ≡ Some (Alu op rd rs1 rs2) }
+    ensures { result ≡ alu_reg_of 0b0110011 word }
 {
     let op = reg_op(funct7(word), funct3(word))?;
     Some(Insn::Alu {
@@ -191,11 +155,7 @@ pub fn alu(word: u32) -> Option<Insn>
 
 /// An operation on the low 32 bits.
 pub fn alu_word(word: u32) -> Option<Insn>
-    requires { part word 6 0 ≡ 0b0111011 }
-    ensures is { result ≡ alu_of 0b0111011 word }
-    ensures found { IfSome result (Encodes word) }
-    ensures only { (op : RegOp) (rd rs1 rs2 : ℕ)
-        → Encodes word (Alu op rd rs1 rs2) → result ≡ Some (Alu op rd rs1 rs2) }
+    ensures { result ≡ alu_reg_of 0b0111011 word }
 {
     let op = reg_op_word(funct7(word), funct3(word))?;
     Some(Insn::Alu {

@@ -242,7 +242,8 @@ pub fn carried_to_register(insn: &Insn) -> (Option<Register>, Option<Register>)
 
 /// The integer register that is carried to the CSR that is a destination.
 pub fn carried_to_csr(insn: &Insn) -> Option<u8>
-    ensures { (r n : ℕ) → table.carries insn.now (X r) (Csr n) ≡ is_number result r && table.sets insn.now true (Csr n) }
+    ensures { (r n : ℕ) → table.carries insn.now (X r) (Csr n)
+        ≡ is_number result r && table.sets insn.now true (Csr n) }
 {
     match *insn {
         Insn::Csr { op, source, .. } if from_register(op) => counted(source),

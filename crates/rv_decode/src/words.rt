@@ -4,7 +4,7 @@ ghost use Rattle.std.specs.Prelude.{◌≡◌, ◌<◌, ◌^◌, ℤ};
 ghost use Rattle.rv_decode.specs.Formats.{field, IsSigned, IsMultiple, IsAmount, bit, r_type, i_type, s_type, b_type};
 ghost use Rattle.rv_decode.specs.Formats.{u_type, j_type, shift_type, a_type, fence_type};
 
-use crate::signed::{field_12, field_13, field_21, field_32};
+use crate::signed::field;
 
 /// What every word but those of the formats U and J has in common.
 fn low_word(rs1: u8, funct3: u32, rd: u8, opcode: u32) -> u32
@@ -38,7 +38,7 @@ pub fn i_word(imm: i64, rs1: u8, funct3: u32, rd: u8, opcode: u32) -> u32
     requires opcode { opcode < 2 ^ 7 }
     ensures { result ≡ i_type (field 12 imm) rs1 funct3 rd opcode }
 {
-    (field_12(imm) << 20) + low_word(rs1, funct3, rd, opcode)
+    (field(12, imm) << 20) + low_word(rs1, funct3, rd, opcode)
 }
 
 pub fn shift_word(funct6: u32, amount: i64, rs1: u8, funct3: u32, rd: u8, opcode: u32) -> u32
@@ -61,7 +61,7 @@ pub fn s_word(imm: i64, rs2: u8, rs1: u8, funct3: u32, opcode: u32) -> u32
     requires opcode { opcode < 2 ^ 7 }
     ensures { result ≡ s_type (field 12 imm) rs2 rs1 funct3 opcode }
 {
-    let n = field_12(imm);
+    let n = field(12, imm);
     ((n >> 5) << 25)
         + (u32::from(rs2) << 20)
         + (u32::from(rs1) << 15)
@@ -78,7 +78,7 @@ pub fn b_word(imm: i64, rs2: u8, rs1: u8, funct3: u32, opcode: u32) -> u32
     requires opcode { opcode < 2 ^ 7 }
     ensures { result ≡ b_type (field 13 imm) rs2 rs1 funct3 opcode }
 {
-    let n = field_13(imm);
+    let n = field(13, imm);
     ((n >> 12) << 31)
         + ((n >> 5 & 0x3F) << 25)
         + (u32::from(rs2) << 20)
@@ -95,7 +95,7 @@ pub fn u_word(imm: i64, rd: u8, opcode: u32) -> u32
     requires opcode { opcode < 2 ^ 7 }
     ensures { result ≡ u_type (field 32 imm) rd opcode }
 {
-    field_32(imm) + (u32::from(rd) << 7) + opcode
+    field(32, imm) + (u32::from(rd) << 7) + opcode
 }
 
 pub fn j_word(imm: i64, rd: u8, opcode: u32) -> u32
@@ -104,7 +104,7 @@ pub fn j_word(imm: i64, rd: u8, opcode: u32) -> u32
     requires opcode { opcode < 2 ^ 7 }
     ensures { result ≡ j_type (field 21 imm) rd opcode }
 {
-    let n = field_21(imm);
+    let n = field(21, imm);
     ((n >> 20) << 31)
         + ((n >> 1 & 0x3FF) << 21)
         + ((n >> 11 & 1) << 20)
