@@ -1,5 +1,6 @@
 -- How a frame falls into its fields.
-use Rattle.std.proofs.Common.{◌≡◌, ℕ, zero, suc, ◌+◌, ◌^◌, ◌<◌, ◌≤◌, List, [], ◌∷◌, ◌++◌, length, take, drop, refl, sym, ◌∙◌, arith, take-append-drop, drop-drop, length-drop, length-take-le}
+use Rattle.std.proofs.Common.{◌≡◌, ℕ, zero, suc, ◌+◌, ◌^◌, ◌<◌, ◌≤◌, List, [], ◌∷◌, ◌++◌, length, take, drop}
+use Rattle.std.proofs.Common.{refl, sym, ◌∙◌, arith, take-append-drop, drop-drop, length-drop, length-take-le}
 use Rattle.std.proofs.lemmas.List.{drop_more, get_or-drop}
 use Rattle.std.proofs.lemmas.Nat.{le_bytes_2, le_bytes_4, le_bytes_8}
 use Rattle.std.specs.Int.{w16, w32, w64, to_le_bytes}
@@ -16,7 +17,8 @@ pub AreBytes-drop : (n : ℕ) (bytes : List ℕ) → AreBytes bytes → AreBytes
 AreBytes-drop n bytes h k = rw get_or-drop (h (n + k))
 
 -- the first bytes of what is behind an offset, and then those behind them
-pub split_off : (bytes piece rest : List ℕ) (at n next : ℕ) → at + n ≡ next → take n (drop at bytes) ≡ piece → drop next bytes ≡ rest
+pub split_off : (bytes piece rest : List ℕ) (at n next : ℕ) → at + n ≡ next → take n (drop at bytes) ≡ piece
+    → drop next bytes ≡ rest
     → drop at bytes ≡ piece ++ rest
 split_off bytes piece rest at n next e p r =
     sym (take-append-drop n (drop at bytes)) ∙ rw (p, drop-drop n at bytes, e, r) refl
@@ -30,20 +32,26 @@ byte_off bytes rest at next inside e r =
 length_off : (bytes : List ℕ) (at n : ℕ) → at + n ≤ length bytes → length (take n (drop at bytes)) ≡ n
 length_off bytes at n inside = length-take-le n (drop at bytes) (omega (arith, length-drop at bytes))
 
-pub u16_off : (bytes rest : List ℕ) (at next : ℕ) → AreBytes bytes → next ≤ length bytes → at + 2 ≡ next → drop next bytes ≡ rest
+pub u16_off : (bytes rest : List ℕ) (at next : ℕ) → AreBytes bytes → next ≤ length bytes → at + 2 ≡ next
+    → drop next bytes ≡ rest
     → drop at bytes ≡ to_le_bytes w16 (u16_in at bytes) ++ rest
 u16_off bytes rest at next ranges inside e r = split_off bytes _ rest at 2 next e
-    (sym (le_bytes_2 (take 2 (drop at bytes)) (u16_in at bytes) (length_off bytes at 2 (omega arith)) (AreBytes-take 2 _ (AreBytes-drop at bytes ranges)) refl)) r
+    (sym (le_bytes_2 (take 2 (drop at bytes)) (u16_in at bytes) (length_off bytes at 2 (omega arith))
+    (AreBytes-take 2 _ (AreBytes-drop at bytes ranges)) refl)) r
 
-pub u32_off : (bytes rest : List ℕ) (at next : ℕ) → AreBytes bytes → next ≤ length bytes → at + 4 ≡ next → drop next bytes ≡ rest
+pub u32_off : (bytes rest : List ℕ) (at next : ℕ) → AreBytes bytes → next ≤ length bytes → at + 4 ≡ next
+    → drop next bytes ≡ rest
     → drop at bytes ≡ to_le_bytes w32 (u32_in at bytes) ++ rest
 u32_off bytes rest at next ranges inside e r = split_off bytes _ rest at 4 next e
-    (sym (le_bytes_4 (take 4 (drop at bytes)) (u32_in at bytes) (length_off bytes at 4 (omega arith)) (AreBytes-take 4 _ (AreBytes-drop at bytes ranges)) refl)) r
+    (sym (le_bytes_4 (take 4 (drop at bytes)) (u32_in at bytes) (length_off bytes at 4 (omega arith))
+    (AreBytes-take 4 _ (AreBytes-drop at bytes ranges)) refl)) r
 
-pub u64_off : (bytes rest : List ℕ) (at next : ℕ) → AreBytes bytes → next ≤ length bytes → at + 8 ≡ next → drop next bytes ≡ rest
+pub u64_off : (bytes rest : List ℕ) (at next : ℕ) → AreBytes bytes → next ≤ length bytes → at + 8 ≡ next
+    → drop next bytes ≡ rest
     → drop at bytes ≡ to_le_bytes w64 (u64_in at bytes) ++ rest
 u64_off bytes rest at next ranges inside e r = split_off bytes _ rest at 8 next e
-    (sym (le_bytes_8 (take 8 (drop at bytes)) (u64_in at bytes) (length_off bytes at 8 (omega arith)) (AreBytes-take 8 _ (AreBytes-drop at bytes ranges)) refl)) r
+    (sym (le_bytes_8 (take 8 (drop at bytes)) (u64_in at bytes) (length_off bytes at 8 (omega arith))
+    (AreBytes-take 8 _ (AreBytes-drop at bytes ranges)) refl)) r
 
 -- the ranges of what is read
 pub byte_below : (bytes : List ℕ) (at : ℕ) → AreBytes bytes → byte_in at bytes < 2 ^ 8

@@ -1,5 +1,6 @@
 -- The CSRs of a Retire are put one behind another.
-use Rattle.std.proofs.Common.{◌≡◌, ℕ, zero, suc, subst, Some, ◌+◌, ◌-◌, List, [], ◌∷◌, ◌++◌, take, drop, sym, ◌∙◌, ap, arith, append_assoc, append-nil, refl, drop-drop}
+use Rattle.std.proofs.Common.{◌≡◌, ℕ, zero, suc, Some, ◌+◌, List, [], ◌∷◌, ◌++◌, take}
+use Rattle.std.proofs.Common.{◌∙◌, ap, arith, refl}
 use Rattle.std.specs.Prelude.{slice_get}
 use Rattle.std.specs.Int.{w16, w64, to_le_bytes}
 use Rattle.std.specs.List.{flat_map}
@@ -8,7 +9,8 @@ use Rattle.msg_frames.specs.Frames.{csr_bytes}
 
 -- one CSR more
 pub csrs_more : (csrs : List CsrValue) (k : ℕ) (csr : CsrValue) → slice_get csrs k ≡ Some csr
-    → flat_map csr_bytes (take k csrs) ++ to_le_bytes w16 csr.number ++ to_le_bytes w64 csr.value ≡ flat_map csr_bytes (take (k + 1) csrs)
+    → flat_map csr_bytes (take k csrs) ++ to_le_bytes w16 csr.number ++ to_le_bytes w64 csr.value ≡ flat_map
+    csr_bytes (take (k + 1) csrs)
 csrs_more [] k csr is = cc
 csrs_more (first ∷ csrs) zero csr is = let same : first ≡ csr = cc in rw same refl
 csrs_more (first ∷ csrs) (suc k) csr is =

@@ -1,8 +1,11 @@
 -- The laws of a cut.
-use Rattle.std.proofs.Common.{◌≡◌, ℕ, zero, suc, ◌+◌, ◌-◌, ◌≤◌, true, false, cond, List, [], ◌∷◌, ◌++◌, length, refl, sym, ◌∙◌, ap, arith, Ok, Err, length-append, ◌<◌, take, drop, inl, inr, length-take-le, take-append-drop}
+use Rattle.std.proofs.Common.{◌≡◌, ℕ, zero, suc, ◌+◌, ◌-◌, ◌≤◌, true, false, cond, List, [], ◌∷◌, ◌++◌, length}
+use Rattle.std.proofs.Common.{refl, sym, ◌∙◌, ap, arith, Ok, Err, length-append, ◌<◌, take, drop, inl, inr}
+use Rattle.std.proofs.Common.{length-take-le, take-append-drop}
 use Rattle.std.specs.Prelude.{nat_lt, nat_le, ◌&&◌}
 use Rattle.std.specs.Int.{w16, from_le_bytes}
-use Rattle.std.proofs.lemmas.Bool.{lt-ltb, le-ltb, cond-true, cond-false, cond_both, and_from, le-leb, and_parts, leb-true}
+use Rattle.std.proofs.lemmas.Bool.{lt-ltb, le-ltb, cond-true, cond-false, cond_both, and_from, le-leb}
+use Rattle.std.proofs.lemmas.Bool.{and_parts, leb-true}
 use Rattle.std.proofs.lemmas.List.{take_at, take-append-le}
 use Rattle.msg_frames.specs.declared.message.Message.{Message}
 use Rattle.msg_frames.specs.declared.message.FrameFault.{FrameFault}
@@ -19,13 +22,16 @@ use Rattle.msg_frames.proofs.Taking.{needed_more}
 -- a frame needs at least its two length bytes
 pub needed_least : (bytes : List ℕ) → 2 ≤ needed bytes
 needed_least bytes =
-    cond_both (nat_lt (length bytes) 2) 2 (cond (is_length (u16_in 0 bytes)) (u16_in 0 bytes + 2) 2) (λ n. 2 ≤ n) (λ e. omega arith)
-    (λ e. cond_both (is_length (u16_in 0 bytes)) (u16_in 0 bytes + 2) 2 (λ n. 2 ≤ n) (λ f. omega arith) (λ f. omega arith))
+    cond_both (nat_lt (length bytes) 2) 2 (cond (is_length (u16_in 0 bytes)) (u16_in 0 bytes + 2) 2) (λ n. 2 ≤ n)
+    (λ e. omega arith)
+    (λ e. cond_both (is_length (u16_in 0 bytes)) (u16_in 0 bytes + 2) 2 (λ n. 2 ≤ n) (λ f. omega arith)
+    (λ f. omega arith))
 
 -- what a frame needs is known by its first two bytes
 pub needed_front : (front more : List ℕ) → 2 ≤ length front → needed (front ++ more) ≡ needed front
 needed_front front more two =
-    cond-false (nat_lt (length (front ++ more)) 2) 2 _ (le-ltb (length (front ++ more)) 2 (omega (arith, length-append front more)))
+    cond-false (nat_lt (length (front ++ more)) 2) 2 _ (le-ltb (length (front ++ more)) 2
+    (omega (arith, length-append front more)))
     ∙ ap (λ (l : List ℕ). let n = from_le_bytes w16 l in cond (is_length n) (n + 2) 2) (take-append-le 2 front more two)
     ∙ sym (cond-false (nat_lt (length front) 2) 2 _ (le-ltb (length front) 2 two))
 
@@ -42,7 +48,8 @@ unfolding cut_after cut_front
 cut_whole [] more whole = absurd (omega arith)
 cut_whole (byte ∷ got) more whole =
     let least = needed_least (byte ∷ got) in
-    let needs : needed (byte ∷ (got ++ more)) ≡ length (byte ∷ got) = needed_front (byte ∷ got) more (omega arith) ∙ sym whole in
+    let needs : needed (byte ∷ (got ++ more)) ≡ length (byte ∷ got) = needed_front (byte ∷ got) more (omega arith)
+    ∙ sym whole in
     let room : needed (byte ∷ (got ++ more)) ≤ length (byte ∷ (got ++ more)) = omega (arith, length-append got more) in
     let rest : length got ≡ needed (byte ∷ (got ++ more)) - 1 = omega arith in
     cond-false (nat_lt (length (byte ∷ (got ++ more))) (needed (byte ∷ (got ++ more)))) _ _ (le-ltb _ _ room)
@@ -51,14 +58,16 @@ cut_whole (byte ∷ got) more whole =
     ∙ ap (cut_read (reading (byte ∷ got))) (cut_skip (needed (byte ∷ (got ++ more)) - 1) got more rest)
 
 -- a message that isn't End comes before the messages of the rest
-pub cut_message : (got more : List ℕ) (message : Message) → IsWhole got → reading got ≡ Ok message → is_end message.body ≡ false
+pub cut_message : (got more : List ℕ) (message : Message) → IsWhole got → reading got ≡ Ok message
+    → is_end message.body ≡ false
     → cut (got ++ more) ≡ put_front message (cut more)
 unfolding cut_read
 cut_message got more message whole is goes_on =
     cut_whole got more whole ∙ ap (λ r. cut_read r (cut more)) is ∙ cond-false (is_end message.body) _ _ goes_on
 
 -- an End is the last message
-pub cut_end : (got more : List ℕ) (message : Message) → IsWhole got → reading got ≡ Ok message → is_end message.body ≡ true
+pub cut_end : (got more : List ℕ) (message : Message) → IsWhole got → reading got ≡ Ok message
+    → is_end message.body ≡ true
     → cut (got ++ more) ≡ record { messages = message ∷ []; ending = End }
 unfolding cut_read
 cut_end got more message whole is ends =
@@ -82,7 +91,8 @@ whole_read got message is =
     let whole = whole_is got (reading_ok got message is).0 in
     let low = whole.low in
     let size = whole.size in
-    size ∙ sym (needed_more got (u16_in 0 got) (omega arith) refl (and_from (nat_le 18 (u16_in 0 got)) (nat_le (u16_in 0 got) 512)
+    size ∙ sym (needed_more got (u16_in 0 got) (omega arith) refl (and_from (nat_le 18 (u16_in 0 got))
+    (nat_le (u16_in 0 got) 512)
     (le-leb 18 (u16_in 0 got) whole.low) (le-leb (u16_in 0 got) 512 whole.high)))
 
 -- the frame of a message is a whole frame

@@ -1,8 +1,9 @@
 -- What is read from the fields of a frame is spelled by them.
-use Rattle.std.proofs.Common.{◌≡◌, ℕ, ◌+◌, ◌%◌, ◌<◌, ◌≤◌, true, false, List, ◌∷◌, ◌++◌, length, take, drop, get_or, refl, sym, ◌∙◌, ap, arith, inl, inr, Ok, lit<, add-zero, zero-add, length-drop, length-take-le, None}
+use Rattle.std.proofs.Common.{◌≡◌, ℕ, ◌+◌, ◌%◌, ◌<◌, ◌≤◌, true, false, List, ◌∷◌, ◌++◌, length, take, drop}
+use Rattle.std.proofs.Common.{get_or, refl, sym, ◌∙◌, ap, arith, inl, inr, lit<, add-zero, zero-add}
+use Rattle.std.proofs.Common.{length-drop, length-take-le, None}
 use Rattle.std.specs.Prelude.{◌==◌, nat_lt, nat_le, ◌&&◌}
 use Rattle.std.proofs.lemmas.Bool.{eqb-true, eqb-false, leb-true, ltb-true, and_parts, cond-true, cond-false}
-use Rattle.std.proofs.lemmas.Bool.Decides.{nat_tests}
 use Rattle.std.specs.Int.{w16, w64, to_le_bytes}
 use Rattle.std.proofs.lemmas.List.{drop_all, take_all, get_or-take, get_or-drop}
 use Rattle.tandem_base.specs.FirstFault.{◌or_else◌}
@@ -11,9 +12,13 @@ use Rattle.msg_frames.specs.declared.message.Form.TheVariants as form
 use Rattle.msg_frames.specs.declared.kinds.Kind.{Kind}
 use Rattle.msg_frames.specs.declared.kinds.Kind.TheVariants as kind
 use Rattle.msg_frames.specs.Fields.{byte_in, u16_in, u32_in, u64_in}
-use Rattle.msg_frames.specs.Frames.{AreBytes, body_bytes, piece_bytes, FitsBody, HoldsBody, target_code, target_number, FitsTarget, HoldsTarget, FitsPiece, HoldsPiece, is_poked_csr}
-use Rattle.msg_frames.specs.Reading.{rule, reserved, open_fault, poke_fault, target_fault, piece_fault, write_fault, end_fault, unmasked_zeros, head_in, target_in, piece_in, body_in}
-use Rattle.msg_frames.proofs.Bytes.{AreBytes-take, AreBytes-drop, byte_off, u16_off, u32_off, u64_off, byte_below, u16_below, u32_below, u64_below}
+use Rattle.msg_frames.specs.Frames.{AreBytes, body_bytes, piece_bytes, FitsBody, HoldsBody, target_code}
+use Rattle.msg_frames.specs.Frames.{target_number, FitsTarget, HoldsTarget, FitsPiece, HoldsPiece, is_poked_csr}
+use Rattle.msg_frames.specs.Reading.{rule, reserved, open_fault, poke_fault, target_fault, piece_fault}
+use Rattle.msg_frames.specs.Reading.{write_fault, end_fault, unmasked_zeros, head_in, target_in, piece_in}
+use Rattle.msg_frames.specs.Reading.{body_in}
+use Rattle.msg_frames.proofs.Bytes.{AreBytes-take, AreBytes-drop, byte_off, u16_off, u32_off, u64_off}
+use Rattle.msg_frames.proofs.Bytes.{byte_below, u16_below, u32_below, u64_below}
 use Rattle.msg_frames.proofs.Steps.{none_else, rule_ok, chosen, zeros_ok, unmasked_ok}
 
 -- the fields of a kind are spelled by the bytes behind the head, and keep their rules
@@ -24,7 +29,8 @@ pub record Found (which : Kind) (bytes : List ℕ) : Type 0 where
 
 -- the first byte of a field
 first_byte : (at n : ℕ) (bytes : List ℕ) → 0 < n → get_or (take n (drop at bytes)) 0 0 ≡ byte_in at bytes
-first_byte at n bytes some = get_or-take n (drop at bytes) 0 0 some ∙ get_or-drop at bytes 0 0 ∙ ap (λ k. get_or bytes k 0) (add-zero at)
+first_byte at n bytes some = get_or-take n (drop at bytes) 0 0 some ∙ get_or-drop at bytes 0 0
+    ∙ ap (λ k. get_or bytes k 0) (add-zero at)
 
 -- ---- reserved fields
 
@@ -52,13 +58,16 @@ found_open bytes ranges len e =
     let hart = none_else (reserved 3 1 bytes) _ e in
     let tag = none_else (reserved 12 8 bytes) _ hart.1 in
     let version = none_else (rule form.Field 20 (byte_in 20 bytes == 1)) _ tag.1 in
-    let harts = none_else (rule form.Field 21 (nat_le 1 (byte_in 21 bytes) && nat_le (byte_in 21 bytes) 16)) _ version.1 in
+    let harts = none_else (rule form.Field 21 (nat_le 1 (byte_in 21 bytes) && nat_le (byte_in 21 bytes) 16)) _
+    version.1 in
     let flags = none_else (rule form.Reserved 22 (nat_lt (byte_in 22 bytes) 4)) _ harts.1 in
     let granule = none_else (reserved 23 1 bytes) (reserved 24 4 bytes) flags.1 in
     let some_harts = and_parts (nat_le 1 (byte_in 21 bytes)) (nat_le (byte_in 21 bytes) 16) (rule_ok _ _ _ harts.0) in
     record {
-      spelled = byte_off bytes _ 20 21 (omega arith) refl (byte_off bytes _ 21 22 (omega arith) refl (byte_off bytes _ 22 23 (omega arith) refl
-          (byte_off bytes _ 23 24 (omega arith) refl (u32_off bytes _ 24 28 ranges (omega arith) refl (drop_all 28 bytes (omega arith))))));
+      spelled = byte_off bytes _ 20 21 (omega arith) refl (byte_off bytes _ 21 22 (omega arith) refl
+          (byte_off bytes _ 22 23 (omega arith) refl
+          (byte_off bytes _ 23 24 (omega arith) refl (u32_off bytes _ 24 28 ranges (omega arith) refl
+          (drop_all 28 bytes (omega arith))))));
       fits = (
         reserved_byte 3 bytes hart.0,
         reserved_u64 12 bytes tag.0,
@@ -71,7 +80,14 @@ found_open bytes ranges len e =
           reserved_u32 24 bytes granule.1,
         ),
       );
-      holds = (byte_below bytes 20 ranges, byte_below bytes 21 ranges, byte_below bytes 22 ranges, byte_below bytes 23 ranges, u32_below bytes 24 ranges);
+      holds = (
+        byte_below bytes 20 ranges,
+        byte_below bytes 21 ranges,
+        byte_below bytes 22 ranges,
+        byte_below bytes
+            23 ranges,
+        u32_below bytes 24 ranges,
+      );
     }
 
 -- ---- Poke
@@ -83,7 +99,8 @@ record FoundTarget (bytes : List ℕ) : Type 0 where
   pub fits : FitsTarget (target_in bytes) (u64_in 24 bytes)
   pub holds : HoldsTarget (target_in bytes)
 
-target_pc : (bytes : List ℕ) → (byte_in 20 bytes == 0) ≡ true → reserved 22 2 bytes or_else rule form.Field 24 (u64_in 24 bytes % 4 == 0) ≡ None → FoundTarget bytes
+target_pc : (bytes : List ℕ) → (byte_in 20 bytes == 0) ≡ true
+    → reserved 22 2 bytes or_else rule form.Field 24 (u64_in 24 bytes % 4 == 0) ≡ None → FoundTarget bytes
 target_pc bytes pc e =
     let parts = none_else (reserved 22 2 bytes) (rule form.Field 24 (u64_in 24 bytes % 4 == 0)) e in
     let is : target_in bytes ≡ Pc = cond-true (byte_in 20 bytes == 0) Pc _ pc in
@@ -102,7 +119,8 @@ target_x bytes ranges no_pc x e =
     let high = leb-true (u16_in 22 bytes) 31 parts.1 in
     let first = first_byte 22 2 bytes (lit< tt) in
     let number : u16_in 22 bytes ≡ byte_in 22 bytes = omega arith in
-    let is : target_in bytes ≡ X (byte_in 22 bytes) = cond-false (byte_in 20 bytes == 0) Pc _ no_pc ∙ cond-true (byte_in 20 bytes == 1) (X (byte_in 22 bytes)) _ x in
+    let is : target_in bytes ≡ X (byte_in 22 bytes) = cond-false (byte_in 20 bytes == 0) Pc _ no_pc
+    ∙ cond-true (byte_in 20 bytes == 1) (X (byte_in 22 bytes)) _ x in
     record {
       code = rw is (eqb-true (byte_in 20 bytes) 1 x);
       number = rw is number;
@@ -110,10 +128,12 @@ target_x bytes ranges no_pc x e =
       holds = rw is (byte_below bytes 22 ranges);
     }
 
-target_csr : (bytes : List ℕ) → AreBytes bytes → byte_in 20 bytes ≤ 2 → (byte_in 20 bytes == 0) ≡ false → (byte_in 20 bytes == 1) ≡ false
+target_csr : (bytes : List ℕ) → AreBytes bytes → byte_in 20 bytes ≤ 2 → (byte_in 20 bytes == 0) ≡ false
+    → (byte_in 20 bytes == 1) ≡ false
     → rule form.Field 22 (is_poked_csr (u16_in 22 bytes)) ≡ None → FoundTarget bytes
 target_csr bytes ranges low no_pc no_x e =
-    let is : target_in bytes ≡ Csr (u16_in 22 bytes) = cond-false (byte_in 20 bytes == 0) Pc _ no_pc ∙ cond-false (byte_in 20 bytes == 1) (X (byte_in 22 bytes)) _ no_x in
+    let is : target_in bytes ≡ Csr (u16_in 22 bytes) = cond-false (byte_in 20 bytes == 0) Pc _ no_pc
+    ∙ cond-false (byte_in 20 bytes == 1) (X (byte_in 22 bytes)) _ no_x in
     record {
       code = rw is (omega (arith, eqb-false (byte_in 20 bytes) 0 no_pc, eqb-false (byte_in 20 bytes) 1 no_x));
       number = rw is refl;
@@ -121,7 +141,8 @@ target_csr bytes ranges low no_pc no_x e =
       holds = rw is (u16_below bytes 22 ranges);
     }
 
-found_target : (bytes : List ℕ) → AreBytes bytes → byte_in 20 bytes ≤ 2 → target_fault (byte_in 20 bytes) bytes ≡ None → FoundTarget bytes
+found_target : (bytes : List ℕ) → AreBytes bytes → byte_in 20 bytes ≤ 2
+    → target_fault (byte_in 20 bytes) bytes ≡ None → FoundTarget bytes
 found_target bytes ranges low e =
     elim (chosen (byte_in 20 bytes == 0) _ _ None e) [
       | inl pc ↦ target_pc bytes pc.0 pc.1
@@ -132,7 +153,8 @@ found_target bytes ranges low e =
     ]
 
 poke_same : (target target' reserved number number' value : ℕ) → target ≡ target' → reserved ≡ 0 → number ≡ number'
-    → target ∷ reserved ∷ to_le_bytes w16 number ++ to_le_bytes w64 value ≡ target' ∷ 0 ∷ to_le_bytes w16 number' ++ to_le_bytes w64 value
+    → target ∷ reserved ∷ to_le_bytes w16 number ++ to_le_bytes w64 value ≡ target' ∷ 0 ∷ to_le_bytes w16 number' ++
+    to_le_bytes w64 value
 poke_same target target' reserved number number' value e f g = rw (e, f, g) refl
 
 pub found_poke : (bytes : List ℕ) → AreBytes bytes → length bytes ≡ 32 → poke_fault bytes ≡ None → Found kind.Poke bytes
@@ -142,7 +164,8 @@ found_poke bytes ranges len e =
     let zero = none_else (reserved 21 1 bytes) (target_fault (byte_in 20 bytes) bytes) target.1 in
     let found = found_target bytes ranges (leb-true (byte_in 20 bytes) 2 (rule_ok _ _ _ target.0)) zero.1 in
     record {
-      spelled = byte_off bytes _ 20 21 (omega arith) refl (byte_off bytes _ 21 22 (omega arith) refl (u16_off bytes _ 22 24 ranges (omega arith) refl
+      spelled = byte_off bytes _ 20 21 (omega arith) refl (byte_off bytes _ 21 22 (omega arith) refl
+          (u16_off bytes _ 22 24 ranges (omega arith) refl
           (u64_off bytes _ 24 32 ranges (omega arith) refl (drop_all 32 bytes (omega arith)))))
           ∙ poke_same _ _ _ _ _ (u64_in 24 bytes) found.code (reserved_byte 21 bytes zero.0) found.number;
       fits = (reserved_u64 12 bytes tag.0, found.fits);
@@ -156,26 +179,33 @@ pub record FoundPiece (bytes : List ℕ) : Type 0 where
   pub fits : FitsPiece (piece_in bytes)
   pub holds : HoldsPiece (piece_in bytes)
 
-pub found_piece : (bytes : List ℕ) → AreBytes bytes → length bytes ≡ u16_in 0 bytes + 2 → 28 ≤ u16_in 0 bytes → u16_in 0 bytes ≤ 35
+pub found_piece : (bytes : List ℕ) → AreBytes bytes → length bytes ≡ u16_in 0 bytes + 2 → 28 ≤ u16_in 0 bytes
+    → u16_in 0 bytes ≤ 35
     → piece_fault bytes ≡ None → FoundPiece bytes
 found_piece bytes ranges len low high e =
-    let count = eqb-true (27 + byte_in 28 bytes) (u16_in 0 bytes) (rule_ok form.Field 28 (27 + byte_in 28 bytes == u16_in 0 bytes) e) in
+    let count = eqb-true (27 + byte_in 28 bytes) (u16_in 0 bytes) (rule_ok form.Field 28
+    (27 + byte_in 28 bytes == u16_in 0 bytes) e) in
     let size : length (drop 29 bytes) ≡ byte_in 28 bytes = length-drop 29 bytes ∙ omega arith in
     record {
-      spelled = u64_off bytes _ 20 28 ranges (omega arith) refl (byte_off bytes _ 28 29 (omega arith) refl refl ∙ ap (λ n. n ∷ drop 29 bytes) (sym size));
+      spelled = u64_off bytes _ 20 28 ranges (omega arith) refl (byte_off bytes _ 28 29 (omega arith) refl refl
+          ∙ ap (λ n. n ∷ drop 29 bytes) (sym size));
       fits = (omega arith, omega arith);
       holds = (u64_below bytes 20 ranges, AreBytes-drop 29 bytes ranges);
     }
 
 -- ---- Write
 
-pub found_write : (bytes : List ℕ) → AreBytes bytes → length bytes ≡ 100 → write_fault bytes ≡ None → Found kind.Write bytes
+pub found_write : (bytes : List ℕ) → AreBytes bytes → length bytes ≡ 100 → write_fault bytes ≡ None
+    → Found kind.Write bytes
 found_write bytes ranges len e =
     let tag = none_else (reserved 12 8 bytes) _ e in
-    let line = none_else (rule form.Field 20 (u64_in 20 bytes % 64 == 0)) (unmasked_zeros (u64_in 28 bytes) 0 (take 64 (drop 36 bytes))) tag.1 in
-    let whole : take 64 (drop 36 bytes) ≡ drop 36 bytes = take_all 64 (drop 36 bytes) (omega (arith, length-drop 36 bytes)) in
+    let line = none_else (rule form.Field 20 (u64_in 20 bytes % 64 == 0)) (unmasked_zeros (u64_in 28 bytes) 0
+    (take 64 (drop 36 bytes))) tag.1 in
+    let whole : take 64 (drop 36 bytes) ≡ drop 36 bytes =
+    take_all 64 (drop 36 bytes) (omega (arith, length-drop 36 bytes)) in
     record {
-      spelled = u64_off bytes _ 20 28 ranges (omega arith) refl (u64_off bytes _ 28 36 ranges (omega arith) refl (sym whole));
+      spelled = u64_off bytes _ 20 28 ranges (omega arith) refl (u64_off bytes _ 28 36 ranges (omega arith) refl
+          (sym whole));
       fits = (
         reserved_u64 12 bytes tag.0,
         (
@@ -199,4 +229,9 @@ found_squash bytes len = record { spelled = drop_all 20 bytes (omega arith); fit
 pub found_end : (bytes : List ℕ) → length bytes ≡ 20 → end_fault bytes ≡ None → Found kind.End bytes
 found_end bytes len e =
     let hart = none_else (reserved 3 1 bytes) (reserved 12 8 bytes) e in
-    record { spelled = drop_all 20 bytes (omega arith); fits = (reserved_byte 3 bytes hart.0, reserved_u64 12 bytes hart.1); holds = tt }
+    record {
+      spelled = drop_all 20 bytes (omega arith);
+      fits =
+          (reserved_byte 3 bytes hart.0, reserved_u64 12 bytes hart.1);
+      holds = tt;
+    }

@@ -1,5 +1,6 @@
 -- The laws of frames: their sizes, and that the frame of a message is read again.
-use Rattle.std.proofs.Common.{Result, ◌≡◌, ℕ, ◌+◌, ◌≤◌, ◌<◌, true, List, length, refl, ◌∙◌, arith, Ok, Err, OnOk, IfErr, ap}
+use Rattle.std.proofs.Common.{Result, ◌≡◌, ℕ, ◌+◌, ◌≤◌, ◌<◌, true, List, length, refl, ◌∙◌, arith, Ok, Err}
+use Rattle.std.proofs.Common.{OnOk, IfErr, ap}
 use Rattle.std.specs.Prelude.{nat_le, ◌&&◌}
 use Rattle.std.proofs.lemmas.Bool.{le-leb, and_from}
 use Rattle.msg_frames.specs.declared.message.Head.{Head}
@@ -10,7 +11,8 @@ use Rattle.msg_frames.specs.declared.message.FrameFault.{FrameFault}
 use Rattle.msg_frames.specs.Kinds.{kind_of}
 use Rattle.msg_frames.specs.Frames.{body_bytes, piece_bytes, frame, FitsBody, HoldsBody, Fits, InRange, Spells}
 use Rattle.msg_frames.specs.Reading.{head_in, body_in, reading}
-use Rattle.msg_frames.proofs.Again.{Again, again_open, again_poke, again_piece, again_write, zero_from, zeros_u64, then_from, reading_by, head_again, length_frame, u16_frame}
+use Rattle.msg_frames.proofs.Again.{Again, again_open, again_poke, again_piece, again_write, zero_from}
+use Rattle.msg_frames.proofs.Again.{zeros_u64, then_from, reading_by, head_again, length_frame, u16_frame}
 use Rattle.msg_frames.proofs.AgainRetire.{again_retire}
 
 piece_allowed : (size : ℕ) → 10 ≤ size → size ≤ 17 → (nat_le 28 (18 + size) && nat_le (18 + size) 35) ≡ true
@@ -21,21 +23,49 @@ again_of head (body.Open info) fits holds = again_open head info fits holds
 again_of head (body.Poke poke) fits holds = again_poke head poke.target poke.value fits holds
 again_of head (body.Read piece) fits holds =
     let again = again_piece (18 + length (piece_bytes piece)) 3 head piece refl fits holds in
-    record { few = omega (arith, again.few); allowed = piece_allowed (length (piece_bytes piece)) again.low again.few; checked = again.checked; value = ap body.Read again.value }
+    record {
+      few = omega (arith, again.few);
+      allowed =
+          piece_allowed (length (piece_bytes piece)) again.low again.few;
+      checked = again.checked;
+      value =
+          ap body.Read again.value;
+    }
 again_of head (body.Insert piece) fits holds =
     let again = again_piece (18 + length (piece_bytes piece)) 4 head piece refl fits holds in
-    record { few = omega (arith, again.few); allowed = piece_allowed (length (piece_bytes piece)) again.low again.few; checked = again.checked; value = ap body.Insert again.value }
+    record {
+      few = omega (arith, again.few);
+      allowed =
+          piece_allowed (length (piece_bytes piece)) again.low again.few;
+      checked = again.checked;
+      value =
+          ap body.Insert again.value;
+    }
 again_of head (body.Write write) fits holds = again_write head write fits holds
 again_of head (body.Bypass piece) fits holds =
     let again = again_piece (18 + length (piece_bytes piece)) 6 head piece refl fits holds in
-    record { few = omega (arith, again.few); allowed = piece_allowed (length (piece_bytes piece)) again.low again.few; checked = again.checked; value = ap body.Bypass again.value }
+    record {
+      few = omega (arith, again.few);
+      allowed =
+          piece_allowed (length (piece_bytes piece)) again.low again.few;
+      checked = again.checked;
+      value =
+          ap body.Bypass again.value;
+    }
 again_of head (body.Retire retire) fits holds = again_retire head retire fits holds
 again_of head body.Squash fits holds = record { few = omega arith; allowed = refl; checked = refl; value = refl }
 again_of head body.End fits holds =
-    record { few = omega arith; allowed = refl; checked = then_from _ _ (zero_from 3 head.hart fits.0) (zeros_u64 12 head.tag fits.1); value = refl }
+    record {
+      few = omega arith;
+      allowed = refl;
+      checked = then_from _ _ (zero_from 3 head.hart fits.0)
+          (zeros_u64 12 head.tag fits.1);
+      value = refl;
+    }
 
 same_message : (head head' : Head) (body body' : Body) → head ≡ head' → body ≡ body'
-    → (let old : Message = record { head = head; body = body } in let new : Message = record { head = head'; body = body' } in old ≡ new)
+    → (let old : Message = record { head = head; body = body } in
+    let new : Message = record { head = head'; body = body' } in old ≡ new)
 same_message head head' body body' e f = rw (e, f) refl
 
 -- the frame of a message is at least 20 bytes, and at most 514
@@ -53,15 +83,18 @@ reading_frame message fits holds =
     let few : length (body_bytes message.body) < 1000 = omega (arith, again.few) in
     let size = u16_frame message few in
     let long = length_frame message in
-    reading_by (kind_of message.body) (frame message) message (omega arith) (omega arith) (omega (arith, again.few)) refl
+    reading_by (kind_of message.body) (frame message) message (omega arith) (omega arith)
+    (omega (arith, again.few)) refl
     (rw size again.allowed) again.checked
-    (same_message (head_in (frame message)) message.head (body_in (kind_of message.body) (frame message)) message.body (head_again message holds.1 holds.2) again.value)
+    (same_message (head_in (frame message)) message.head (body_in (kind_of message.body)
+    (frame message)) message.body (head_again message holds.1 holds.2) again.value)
 
 pub spells_reading : (bytes : List ℕ) (message : Message) → Spells bytes message → reading bytes ≡ Ok message
 spells_reading bytes message spells = ap reading spells.is ∙ reading_frame message spells.fits spells.holds
 
 -- one answer is at most one message
-pub same_ok : (read : Result Message FrameFault) (first second : Message) → read ≡ Ok first → read ≡ Ok second → first ≡ second
+pub same_ok : (read : Result Message FrameFault) (first second : Message) → read ≡ Ok first → read ≡ Ok second
+    → first ≡ second
 same_ok read first second e f = cc
 
 -- bytes spell at most one message
@@ -69,16 +102,19 @@ pub one_message : (bytes : List ℕ) (first second : Message) → Spells bytes f
 one_message bytes first second p q =
     same_ok (reading bytes) first second (spells_reading bytes first p) (spells_reading bytes second q)
 
-ok_err : {A : Type 0} (read : Result Message FrameFault) (message : Message) (fault : FrameFault) → read ≡ Ok message → read ≡ Err fault → A
+ok_err : {A : Type 0} (read : Result Message FrameFault) (message : Message) (fault : FrameFault) → read ≡ Ok message
+    → read ≡ Err fault → A
 ok_err read message fault e f = cc
 
 -- bytes that spell a message have no fault
 pub spells_no_fault : {A : Type 0} (bytes : List ℕ) (message : Message) (fault : FrameFault) → Spells bytes message
     → reading bytes ≡ Err fault → A
-spells_no_fault bytes message fault spells e = ok_err (reading bytes) message fault (spells_reading bytes message spells) e
+spells_no_fault bytes message fault spells e = ok_err (reading bytes) message fault
+    (spells_reading bytes message spells) e
 
 -- where bytes spell a message it is the one that was read
-pub only_into : (bytes : List ℕ) (result : Result (Unit {0}) FrameFault) (new message : Message) → OnOk result (reading bytes ≡ Ok new)
+pub only_into : (bytes : List ℕ) (result : Result (Unit {0}) FrameFault) (new message : Message)
+    → OnOk result (reading bytes ≡ Ok new)
     → IfErr result (λ fault. reading bytes ≡ Err fault) → Spells bytes message → (result ≡ Ok tt) × (new ≡ message)
 only_into bytes (Ok v) new message read fault spells =
     (refl, same_ok (reading bytes) new message read (spells_reading bytes message spells))

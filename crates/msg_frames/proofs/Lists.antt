@@ -12,7 +12,8 @@ csrs_in_more count fewer bytes e = rw (e, add-one) refl
 -- a CSR that moves to the list
 pub csrs_in_step : (list : List CsrValue) (rest all : List ℕ) (count k number value : ℕ) → k < count
     → number ≡ u16_in 0 rest → value ≡ u64_in 2 rest → list ++ csrs_in (count - k) rest ≡ csrs_in count all
-    → (list ++ record { number = number; value = value } ∷ []) ++ csrs_in (count - (k + 1)) (drop 10 rest) ≡ csrs_in count all
+    → (list ++ record { number = number; value = value } ∷ []) ++ csrs_in (count - (k + 1))
+    (drop 10 rest) ≡ csrs_in count all
 csrs_in_step list rest all count k number value below n v before =
     let more : count - k ≡ count - (k + 1) + 1 = omega arith in
     rw (append_assoc, n, v) (rw (csrs_in_more (count - k) (count - (k + 1)) rest more) at before)

@@ -1,5 +1,6 @@
 -- The message that is read from a frame is the one that the frame spells.
-use Rattle.std.proofs.Common.{◌≡◌, ℕ, ◌+◌, ◌≤◌, true, List, ◌∷◌, ◌++◌, length, refl, sym, ◌∙◌, ap, subst, arith, Result, Ok, Err, OnOk, length-drop, None}
+use Rattle.std.proofs.Common.{◌≡◌, ℕ, ◌+◌, ◌≤◌, true, List, ◌∷◌, ◌++◌, length, refl, sym, ◌∙◌, ap, subst, arith}
+use Rattle.std.proofs.Common.{Result, Ok, Err, OnOk, length-drop, None}
 use Rattle.std.specs.Prelude.{◌==◌, nat_le}
 use Rattle.std.specs.Int.{w16, w64, to_le_bytes}
 use Rattle.std.proofs.lemmas.Bool.{eqb-true, leb-true, and_parts}
@@ -13,29 +14,35 @@ use Rattle.msg_frames.specs.Frames.{AreBytes, body_bytes, frame, Spells}
 use Rattle.msg_frames.specs.Reading.{field_fault, piece_fault, body_in, message_in, reading}
 use Rattle.msg_frames.proofs.Bytes.{byte_off, u16_off, u64_off, byte_below, u64_below}
 use Rattle.msg_frames.proofs.Ways.{Read, reading_ok, coded_is, Whole, whole_is}
-use Rattle.msg_frames.proofs.Found.{Found, FoundPiece, found_open, found_poke, found_piece, found_write, found_squash, found_end}
+use Rattle.msg_frames.proofs.Found.{Found, FoundPiece, found_open, found_poke, found_piece, found_write}
+use Rattle.msg_frames.proofs.Found.{found_squash, found_end}
 use Rattle.msg_frames.proofs.FoundRetire.{found_retire}
 
 -- a length of just one kind
 size_is : (bytes : List ℕ) (n m : ℕ) → Whole bytes → (u16_in 0 bytes == n) ≡ true → n + 2 ≡ m → length bytes ≡ m
 size_is bytes n m whole e sum = whole.size ∙ ap (λ k. k + 2) (eqb-true (u16_in 0 bytes) n e) ∙ sum
 
-piece_of : (bytes : List ℕ) → AreBytes bytes → Whole bytes → has_piece_length (u16_in 0 bytes) ≡ true → piece_fault bytes ≡ None → FoundPiece bytes
+piece_of : (bytes : List ℕ) → AreBytes bytes → Whole bytes → has_piece_length (u16_in 0 bytes) ≡ true
+    → piece_fault bytes ≡ None → FoundPiece bytes
 piece_of bytes ranges whole size e =
     let parts = and_parts (nat_le 28 (u16_in 0 bytes)) (nat_le (u16_in 0 bytes) 35) size in
     found_piece bytes ranges whole.size (leb-true 28 (u16_in 0 bytes) parts.0) (leb-true (u16_in 0 bytes) 35 parts.1) e
 
-found_of : (which : Kind) (bytes : List ℕ) → AreBytes bytes → Whole bytes → has_length which (u16_in 0 bytes) ≡ true → field_fault which bytes ≡ None
+found_of : (which : Kind) (bytes : List ℕ) → AreBytes bytes → Whole bytes → has_length which (u16_in 0 bytes) ≡ true
+    → field_fault which bytes ≡ None
     → Found which bytes
 found_of kind.Open bytes ranges whole size e = found_open bytes ranges (size_is bytes 26 28 whole size refl) e
 found_of kind.Poke bytes ranges whole size e = found_poke bytes ranges (size_is bytes 30 32 whole size refl) e
 found_of kind.Read bytes ranges whole size e =
-    let found = piece_of bytes ranges whole size e in record { spelled = found.spelled; fits = found.fits; holds = found.holds }
+    let found = piece_of bytes ranges whole size e in
+    record { spelled = found.spelled; fits = found.fits; holds = found.holds }
 found_of kind.Insert bytes ranges whole size e =
-    let found = piece_of bytes ranges whole size e in record { spelled = found.spelled; fits = found.fits; holds = found.holds }
+    let found = piece_of bytes ranges whole size e in
+    record { spelled = found.spelled; fits = found.fits; holds = found.holds }
 found_of kind.Write bytes ranges whole size e = found_write bytes ranges (size_is bytes 98 100 whole size refl) e
 found_of kind.Bypass bytes ranges whole size e =
-    let found = piece_of bytes ranges whole size e in record { spelled = found.spelled; fits = found.fits; holds = found.holds }
+    let found = piece_of bytes ranges whole size e in
+    record { spelled = found.spelled; fits = found.fits; holds = found.holds }
 found_of kind.Retire bytes ranges whole size e = found_retire bytes ranges whole.size size e
 found_of kind.Squash bytes ranges whole size e = found_squash bytes (size_is bytes 18 20 whole size refl)
 found_of kind.End bytes ranges whole size e = found_end bytes (size_is bytes 18 20 whole size refl) e
@@ -56,17 +63,21 @@ head_same : (size size' code code' hart time tag : ℕ) (rest : List ℕ) → si
     ≡ to_le_bytes w16 size' ++ code' ∷ hart ∷ to_le_bytes w64 time ++ to_le_bytes w64 tag ++ rest
 head_same size size' code code' hart time tag rest s c = rw (s, c) refl
 
-spelled_as : (which : Kind) (bytes : List ℕ) → AreBytes bytes → Whole bytes → byte_in 2 bytes ≡ code_of which → Found which bytes
+spelled_as : (which : Kind) (bytes : List ℕ) → AreBytes bytes → Whole bytes → byte_in 2 bytes ≡ code_of which
+    → Found which bytes
     → bytes ≡ frame (message_in which bytes)
 spelled_as which bytes ranges whole code found =
     let low = whole.low in let size = whole.size in
     let long : 20 ≤ length bytes = omega arith in
-    let sum : u16_in 0 bytes ≡ 18 + length (body_bytes (body_in which bytes)) = omega (arith, ap length found.spelled, length-drop 20 bytes) in
-    u16_off bytes _ 0 2 ranges (omega arith) refl (byte_off bytes _ 2 3 (omega arith) refl (byte_off bytes _ 3 4 (omega arith) refl
+    let sum : u16_in 0 bytes ≡ 18 + length (body_bytes (body_in which bytes)) =
+    omega (arith, ap length found.spelled, length-drop 20 bytes) in
+    u16_off bytes _ 0 2 ranges (omega arith) refl (byte_off bytes _ 2 3 (omega arith) refl
+    (byte_off bytes _ 3 4 (omega arith) refl
     (u64_off bytes _ 4 12 ranges (omega arith) refl (u64_off bytes _ 12 20 ranges long refl found.spelled))))
     ∙ head_same _ _ _ _ _ _ _ _ sum (code ∙ ap code_of (sym (kind_of_body which bytes)))
 
-spells_read : (bytes : List ℕ) (message : Message) → AreBytes bytes → Whole bytes → (read : Read bytes message) → Spells bytes message
+spells_read : (bytes : List ℕ) (message : Message) → AreBytes bytes → Whole bytes → (read : Read bytes message)
+    → Spells bytes message
 spells_read bytes message ranges whole read =
     let which = read.which in
     let found = found_of which bytes ranges whole read.length read.checked in

@@ -1,5 +1,6 @@
 -- What checks that found nothing say, and what an if-chain that ended says.
-use Rattle.std.proofs.Common.{◌≡◌, ℕ, zero, suc, ◌+◌, ◌⊎◌, Bool, true, false, cond, List, [], ◌∷◌, get_or, refl, arith, add-zero, inl, inr, Result, Ok, Err, Option, None, Some}
+use Rattle.std.proofs.Common.{◌≡◌, ℕ, zero, suc, ◌+◌, ◌⊎◌, Bool, true, false, cond, List, [], ◌∷◌, get_or, refl}
+use Rattle.std.proofs.Common.{arith, add-zero, inl, inr, Result, Ok, Err, Option, None, Some}
 use Rattle.std.specs.Prelude.{◌==◌, not, ◌&&◌}
 use Rattle.std.proofs.lemmas.Bool.{eqb-true}
 use Rattle.std.proofs.lemmas.Bool.Decides.{nat_tests}
@@ -58,11 +59,13 @@ stray_no : (bit byte : ℕ) → (bit == 0 && not (byte == 0)) ≡ false → bit 
 stray_no bit byte e outside = grind (arith, nat_tests)
 
 -- each byte outside the mask is 0
-pub unmasked_ok : (mask k : ℕ) (bytes : List ℕ) → unmasked_zeros mask k bytes ≡ None → (i : ℕ) → mask_bit mask (k + i) ≡ 0 → get_or bytes i 0 ≡ 0
+pub unmasked_ok : (mask k : ℕ) (bytes : List ℕ) → unmasked_zeros mask k bytes ≡ None → (i : ℕ)
+    → mask_bit mask (k + i) ≡ 0 → get_or bytes i 0 ≡ 0
 unmasked_ok mask k [] e i outside = refl
 unmasked_ok mask k (byte ∷ bytes) e zero outside =
     let here : mask_bit mask k ≡ 0 = rw add-zero at outside in
     stray_no (mask_bit mask k) byte (chosen_later (is_stray mask k byte) (unmasked_zeros mask (k + 1) bytes) _ e).0 here
 unmasked_ok mask k (byte ∷ bytes) e (suc i) outside =
     let same : k + suc i ≡ k + 1 + i = omega arith in
-    unmasked_ok mask (k + 1) bytes (chosen_later (is_stray mask k byte) (unmasked_zeros mask (k + 1) bytes) _ e).1 i (rw same at outside)
+    unmasked_ok mask (k + 1) bytes (chosen_later (is_stray mask k byte) (unmasked_zeros mask (k + 1) bytes) _ e).1 i
+    (rw same at outside)

@@ -1,5 +1,7 @@
 -- How what was taken in one read and what was taken in the next join, and when that is a frame.
-use Rattle.std.proofs.Common.{◌≡◌, ℕ, ◌+◌, ◌-◌, ◌<◌, ◌≤◌, Bool, true, false, List, [], ◌++◌, length, take, drop, map, refl, sym, ◌∙◌, ap, arith, Option, Err, length-append, length-take-le, length-drop}
+use Rattle.std.proofs.Common.{◌≡◌, ℕ, ◌+◌, ◌-◌, ◌<◌, ◌≤◌, Bool, true, false, List, [], ◌++◌, length, take, drop}
+use Rattle.std.proofs.Common.{map, refl, sym, ◌∙◌, ap, arith, Option, Err, length-append, length-take-le}
+use Rattle.std.proofs.Common.{length-drop}
 use Rattle.std.specs.Int.{w16, from_le_bytes}
 use Rattle.std.specs.Prelude.{nat_lt, nat_le, ◌==◌, ◌&&◌}
 use Rattle.std.proofs.KnownBytes.{Consumes-nil, Consumes-trans}
@@ -24,7 +26,8 @@ pub Took-nil : (left : Option (List ℕ)) (log : Log) → Took left left log log
 Took-nil left log = record { consumed = Consumes-nil left; logged = Logs-nil log }
 
 pub Took-trans : (left left' left'' : Option (List ℕ)) (log log' log'' : Log) (first second : List ℕ)
-    → Took left left' log log' first → Took left' left'' log' log'' second → Took left left'' log log'' (first ++ second)
+    → Took left left' log log' first → Took left' left'' log' log'' second
+    → Took left left'' log log'' (first ++ second)
 Took-trans left left' left'' log log' log'' first second p q = record {
   consumed = Consumes-trans left left' left'' first second p.consumed q.consumed;
   logged = rw map-append (Logs-trans log log' log'' (map taken first) (map taken second) p.logged q.logged);
@@ -42,7 +45,8 @@ take_filled at k n buf part inside few =
 -- ---- what a frame needs
 
 -- a frame with a length that some frame has
-pub needed_more : (bytes : List ℕ) (length_of : ℕ) → 2 ≤ length bytes → u16_in 0 bytes ≡ length_of → is_length length_of ≡ true → needed bytes ≡ length_of + 2
+pub needed_more : (bytes : List ℕ) (length_of : ℕ) → 2 ≤ length bytes → u16_in 0 bytes ≡ length_of
+    → is_length length_of ≡ true → needed bytes ≡ length_of + 2
 needed_more bytes length_of long e fits =
     cond-false (nat_lt (length bytes) 2) 2 _ (le-ltb (length bytes) 2 long)
     ∙ cond-true (is_length (u16_in 0 bytes)) (u16_in 0 bytes + 2) 2 (ap is_length e ∙ fits) ∙ ap (λ n. n + 2) e
@@ -52,27 +56,33 @@ needed_low bytes short = cond-true (nat_lt (length bytes) 2) 2 _ (lt-ltb (length
 
 needed_bad : (bytes : List ℕ) → 2 ≤ length bytes → is_length (u16_in 0 bytes) ≡ false → needed bytes ≡ 2
 needed_bad bytes long bad =
-    cond-false (nat_lt (length bytes) 2) 2 _ (le-ltb (length bytes) 2 long) ∙ cond-false (is_length (u16_in 0 bytes)) (u16_in 0 bytes + 2) 2 bad
+    cond-false (nat_lt (length bytes) 2) 2 _ (le-ltb (length bytes) 2 long)
+    ∙ cond-false (is_length (u16_in 0 bytes)) (u16_in 0 bytes + 2) 2 bad
 
 -- the length stands in the first two bytes
 pub u16_front : (first second : List ℕ) → length first ≡ 2 → u16_in 0 (first ++ second) ≡ u16_in 0 first
 u16_front first second size =
-    let front : take 2 (first ++ second) ≡ take 2 first = take-append-le 2 first second (omega arith) in ap (λ l. from_le_bytes w16 l) front
+    let front : take 2 (first ++ second) ≡ take 2 first = take-append-le 2 first second (omega arith) in
+    ap (λ l. from_le_bytes w16 l) front
 
 pub short_start : (got : List ℕ) → length got < 2 → IsShort got
 short_start got short = rw (needed_low got short) short
 
-pub short_later : (first second : List ℕ) → length first ≡ 2 → is_length (u16_in 0 first) ≡ true → length second < u16_in 0 first
+pub short_later : (first second : List ℕ) → length first ≡ 2 → is_length (u16_in 0 first) ≡ true
+    → length second < u16_in 0 first
     → IsShort (first ++ second)
 short_later first second size fits short =
     let all = length-append first second in
-    let needs = needed_more (first ++ second) (u16_in 0 first) (omega arith) (u16_front first second size) fits in omega arith
+    let needs = needed_more (first ++ second) (u16_in 0 first) (omega arith) (u16_front first second size) fits in
+    omega arith
 
-pub whole_later : (first second : List ℕ) → length first ≡ 2 → is_length (u16_in 0 first) ≡ true → length second ≡ u16_in 0 first
+pub whole_later : (first second : List ℕ) → length first ≡ 2 → is_length (u16_in 0 first) ≡ true
+    → length second ≡ u16_in 0 first
     → IsWhole (first ++ second)
 whole_later first second size fits same =
     let all = length-append first second in
-    let needs = needed_more (first ++ second) (u16_in 0 first) (omega arith) (u16_front first second size) fits in omega arith
+    let needs = needed_more (first ++ second) (u16_in 0 first) (omega arith) (u16_front first second size) fits in
+    omega arith
 
 pub whole_bad : (got : List ℕ) → length got ≡ 2 → is_length (u16_in 0 got) ≡ false → IsWhole got
 whole_bad got size bad = size ∙ sym (needed_bad got (omega arith) bad)
@@ -90,7 +100,8 @@ reading_bad got bad = cond-false (is_whole got) _ (Err (fault form.Length 0))
 -- ---- the buffer of two reads
 
 -- what the first read got begins with the length
-pub length_of_front : (front tail got : List ℕ) (n : ℕ) → length front ≡ 2 → got ≡ front → n ≡ u16_in 0 (front ++ tail) → u16_in 0 got ≡ n
+pub length_of_front : (front tail got : List ℕ) (n : ℕ) → length front ≡ 2 → got ≡ front
+    → n ≡ u16_in 0 (front ++ tail) → u16_in 0 got ≡ n
 length_of_front front tail got n size e is = ap (u16_in 0) e ∙ sym (u16_front front tail size) ∙ sym is
 
 -- what both reads got, as it stands in the buffer
@@ -109,10 +120,12 @@ is_length_high n e = leb-true n 512 (and_parts (nat_le 18 n) (nat_le n 512) e).1
 pub part_size : (front tail part : List ℕ) (n k : ℕ) → length front ≡ 2 → length tail ≡ 512 → n ≤ 512 → k ≡ n
     → length part ≡ length (take (k + 2 - 2) (drop 2 (front ++ tail))) → length part ≡ n
 part_size front tail part n k size room few same e =
-    e ∙ length-take-le (k + 2 - 2) (drop 2 (front ++ tail)) (omega (arith, length-drop 2 (front ++ tail), length-append front tail)) ∙ omega arith
+    e ∙ length-take-le (k + 2 - 2) (drop 2 (front ++ tail))
+    (omega (arith, length-drop 2 (front ++ tail), length-append front tail)) ∙ omega arith
 
 -- a whole frame that was read is what was taken
-pub whole_arrived : (answer : Arrived) (old new : Message) (got : List ℕ) (left : Option (List ℕ)) → IsWhole got → FrameIs answer old new got
+pub whole_arrived : (answer : Arrived) (old new : Message) (got : List ℕ) (left : Option (List ℕ)) → IsWhole got
+    → FrameIs answer old new got
     → ArrivedIs answer old new got left
 whole_arrived arrived.Message old new got left whole is = (whole, is.0, is.1)
 whole_arrived (arrived.Bad fault) old new got left whole is = (whole, is.0, is.1)

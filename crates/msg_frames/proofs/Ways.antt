@@ -1,5 +1,6 @@
 -- What a reading that gave a message went through.
-use Rattle.std.proofs.Common.{◌≡◌, ℕ, ◌+◌, ◌≤◌, true, cond, List, length, refl, sym, ◌∙◌, ap, arith, inl, inr, Option, Some, None, Ok}
+use Rattle.std.proofs.Common.{◌≡◌, ℕ, ◌+◌, ◌≤◌, true, cond, List, length, refl, sym, ◌∙◌, ap, arith, inl, inr}
+use Rattle.std.proofs.Common.{Option, Some, None, Ok}
 use Rattle.std.specs.Prelude.{◌==◌, nat_le, ◌&&◌}
 use Rattle.std.proofs.lemmas.Bool.{eqb-true}
 use Rattle.std.proofs.lemmas.Bool.Decides.{nat_tests}
@@ -24,7 +25,8 @@ read_of : (o : Option Kind) (bytes : List ℕ) (message : Message) → o ≡ kin
 unfolding reading_of
 read_of None bytes message o e = cc
 read_of (Some which) bytes message o e =
-    let way = chosen_ok (has_length which (u16_in 0 bytes)) (unless (field_fault which bytes) (message_in which bytes)) _ message e in
+    let way = chosen_ok (has_length which (u16_in 0 bytes)) (unless (field_fault which bytes)
+    (message_in which bytes)) _ message e in
     let last = unless_ok (field_fault which bytes) (message_in which bytes) message way.1 in
     record { which = which; coded = sym o; length = way.0; checked = last.0; value = last.1 }
 
@@ -35,7 +37,8 @@ reading_ok bytes message e =
     let way = chosen_ok (is_whole bytes) (reading_of (kind_coded (byte_in 2 bytes)) bytes) _ message e in
     (way.0, read_of (kind_coded (byte_in 2 bytes)) bytes message refl way.1)
 
-coded_else : (code n : ℕ) (k : Kind) (rest : Option Kind) (which : Kind) → code_of k ≡ n → cond (code == n) (Some k) rest ≡ Some which
+coded_else : (code n : ℕ) (k : Kind) (rest : Option Kind) (which : Kind) → code_of k ≡ n
+    → cond (code == n) (Some k) rest ≡ Some which
     → (rest ≡ Some which → code ≡ code_of which) → code ≡ code_of which
 coded_else code n k rest which c e later =
     elim (chosen (code == n) (Some k) rest (Some which) e) [
@@ -46,9 +49,12 @@ coded_else code n k rest which c e later =
 -- the byte of a kind is its code
 pub coded_is : (code : ℕ) (which : Kind) → kind_coded code ≡ Some which → code ≡ code_of which
 coded_is code which e =
-    coded_else code 1 kind.Open _ which refl e (λ e. coded_else code 2 kind.Poke _ which refl e (λ e. coded_else code 3 kind.Read _ which refl e (λ e.
-    coded_else code 4 kind.Insert _ which refl e (λ e. coded_else code 5 kind.Write _ which refl e (λ e. coded_else code 6 kind.Bypass _ which refl e (λ e.
-    coded_else code 7 kind.Retire _ which refl e (λ e. coded_else code 8 kind.Squash _ which refl e (λ e. coded_else code 9 kind.End _ which refl e (λ e. cc)))))))))
+    coded_else code 1 kind.Open _ which refl e (λ e. coded_else code 2 kind.Poke _ which refl e
+    (λ e. coded_else code 3 kind.Read _ which refl e (λ e.
+    coded_else code 4 kind.Insert _ which refl e (λ e. coded_else code 5 kind.Write _ which refl e
+    (λ e. coded_else code 6 kind.Bypass _ which refl e (λ e.
+    coded_else code 7 kind.Retire _ which refl e (λ e. coded_else code 8 kind.Squash _ which refl e
+    (λ e. coded_else code 9 kind.End _ which refl e (λ e. cc)))))))))
 
 -- the length of a whole frame
 pub record Whole (bytes : List ℕ) : Type 0 where

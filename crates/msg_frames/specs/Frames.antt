@@ -1,5 +1,6 @@
 -- The one spelling of a message, and the rules that its fields keep.
-use Rattle.std.specs.Prelude.{◌≡◌, ℕ, ◌+◌, ◌/◌, ◌%◌, ◌^◌, ◌<◌, ◌≤◌, ◌⊎◌, Bool, IsTrue, nat_eq, List, [], ◌∷◌, ◌++◌, length, slice_index, All, Option, Some, None, IfSome, unwrap_or}
+use Rattle.std.specs.Prelude.{◌≡◌, ℕ, ◌+◌, ◌/◌, ◌%◌, ◌^◌, ◌<◌, ◌≤◌, Bool, IsTrue, nat_eq, List, [], ◌∷◌}
+use Rattle.std.specs.Prelude.{◌++◌, length, slice_index, All, Option, Some, None, IfSome, unwrap_or}
 use Rattle.std.specs.Int.{w16, w32, w64, to_le_bytes}
 use Rattle.std.specs.List.{flat_map, list_any}
 use Rattle.tandem_base.specs.CsrNumbers as csr
@@ -38,7 +39,9 @@ target_number (Csr number) = number
 
 -- the target, a zero, the number and the value
 abbrev pub poke_bytes : Poke → List ℕ
-poke_bytes poke = target_code poke.target ∷ 0 ∷ to_le_bytes w16 (target_number poke.target) ++ to_le_bytes w64 poke.value
+poke_bytes poke =
+    target_code poke.target ∷ 0 ∷ to_le_bytes w16 (target_number poke.target)
+    ++ to_le_bytes w64 poke.value
 
 -- the address, how many bytes, and the bytes
 abbrev pub piece_bytes : Piece → List ℕ
@@ -186,7 +189,8 @@ HoldsBody (body.Open info) = (info.version < 2 ^ 8) × (info.harts < 2 ^ 8) × (
 HoldsBody (body.Poke poke) = HoldsTarget poke.target × (poke.value < 2 ^ 64)
 HoldsBody (body.Read piece) = HoldsPiece piece
 HoldsBody (body.Insert piece) = HoldsPiece piece
-HoldsBody (body.Write write) = (write.line < 2 ^ 64) × (write.mask < 2 ^ 64) × (length write.bytes ≡ 64) × AreBytes write.bytes
+HoldsBody (body.Write write) =
+    (write.line < 2 ^ 64) × (write.mask < 2 ^ 64) × (length write.bytes ≡ 64) × AreBytes write.bytes
 HoldsBody (body.Bypass piece) = HoldsPiece piece
 HoldsBody (body.Retire retire) = HoldsRetire retire
 HoldsBody body.Squash = Unit {0}

@@ -1,5 +1,7 @@
 -- Which message a frame spells, and else the first fault of its form.
-use Rattle.std.specs.Prelude.{ℕ, zero, suc, ◌==◌, nat_le, nat_lt, ◌&&◌, ◌||◌, not, ◌+◌, ◌*◌, ◌/◌, ◌%◌, Bool, true, false, if◌then◌else◌, List, [], ◌∷◌, length, take, drop, Option, Some, None, Result, Ok, Err}
+use Rattle.std.specs.Prelude.{ℕ, zero, suc, ◌==◌, nat_le, nat_lt, ◌&&◌, not, ◌+◌, ◌*◌, ◌/◌, ◌%◌, Bool}
+use Rattle.std.specs.Prelude.{true, false, if◌then◌else◌, List, [], ◌∷◌, length, take, drop, Option, Some, None}
+use Rattle.std.specs.Prelude.{Result, Err}
 use Rattle.tandem_base.specs.FirstFault.{◌or_else◌, unless}
 use Rattle.msg_frames.specs.declared.csrs.CsrValue.{CsrValue}
 use Rattle.msg_frames.specs.declared.message.Head.{Head}
@@ -146,7 +148,13 @@ head_in frame = record { hart = byte_in 3 frame; time = u64_in 4 frame; tag = u6
 
 -- the settings
 abbrev pub open_in : List ℕ → OpenInfo
-open_in frame = record { version = byte_in 20 frame; harts = byte_in 21 frame; flags = byte_in 22 frame; granule = byte_in 23 frame; skew = u32_in 24 frame }
+open_in frame = record {
+  version = byte_in 20 frame;
+  harts = byte_in 21 frame;
+  flags = byte_in 22 frame;
+  granule = byte_in 23 frame;
+  skew = u32_in 24 frame;
+}
 
 -- what a Poke sets
 abbrev pub target_in : List ℕ → Target

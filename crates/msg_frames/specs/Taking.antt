@@ -1,5 +1,6 @@
 -- What is taken from a source for one frame.
-use Rattle.std.specs.Prelude.{◌≡◌, ℕ, ◌<◌, nat_le, ◌&&◌, if◌then◌else◌, Bool, true, false, List, length, map, Option, Ok, Err}
+use Rattle.std.specs.Prelude.{◌≡◌, ℕ, ◌<◌, nat_le, ◌&&◌, if◌then◌else◌, Bool, true, false, List, length, map}
+use Rattle.std.specs.Prelude.{Option, Ok, Err}
 use Rattle.std.specs.Io.KnownBytes.{Consumes, IsAtEnd}
 use Rattle.tandem_io.specs.Told.{Log, Logs, taken}
 use Rattle.msg_frames.specs.declared.source.Next.{Next}

@@ -1,7 +1,10 @@
 //! The first fault of the fields of a frame, in the order of their offsets.
 
 ghost use Rattle.std.specs.Prelude.{◌≡◌, ◌+◌, ◌<◌, ◌≤◌, length, take, drop, true};
-ghost use Rattle.msg_frames.specs.Reading.{fault, rule, zeros, reserved, is_stray, unmasked_zeros, open_fault, poke_fault, target_fault, piece_fault, write_fault, has_trap, has_rd, cause_fault, rd_fault, value_fault, retire_fault, end_fault, field_fault};
+ghost use Rattle.msg_frames.specs.Reading.{fault, rule, zeros, reserved, is_stray, unmasked_zeros, open_fault};
+ghost use Rattle.msg_frames.specs.Reading.{poke_fault, target_fault, piece_fault, write_fault, has_trap, has_rd};
+ghost use Rattle.msg_frames.specs.Reading.{cause_fault, rd_fault, value_fault, retire_fault, end_fault};
+ghost use Rattle.msg_frames.specs.Reading.{field_fault};
 ghost use Rattle.msg_frames.specs.Frames.{is_poked_csr};
 ghost use Rattle.msg_frames.specs.Kinds.{has_length};
 ghost use Rattle.tandem_base.specs.FirstFault.{passed};

@@ -1,7 +1,9 @@
 //! How a message is spelled in its one frame.
 
 ghost use Rattle.std.specs.Prelude.{◌≡◌, ◌+◌, ◌*◌, ◌≤◌, length, take, drop};
-ghost use Rattle.msg_frames.specs.Frames.{frame, head_bytes, body_bytes, open_bytes, poke_bytes, piece_bytes, write_bytes, retire_bytes, csr_bytes, flag, target_code, target_number, rd_number, rd_value, Fits};
+ghost use Rattle.msg_frames.specs.Frames.{frame, head_bytes, body_bytes, open_bytes, poke_bytes, piece_bytes};
+ghost use Rattle.msg_frames.specs.Frames.{write_bytes, retire_bytes, csr_bytes, flag, target_code};
+ghost use Rattle.msg_frames.specs.Frames.{target_number, rd_number, rd_value, Fits};
 ghost use Rattle.tandem_base.specs.Puts.{Puts};
 ghost use Rattle.std.specs.List.{flat_map};
 

@@ -1,7 +1,8 @@
 //! The rules that the fields of a message keep.
 
 ghost use Rattle.std.specs.Prelude.{◌≡◌, ◌<◌, ◌↔◌, ℕ, IsTrue, length, slice_index};
-ghost use Rattle.msg_frames.specs.Frames.{mask_bit, FitsOpen, FitsTarget, FitsWrite, FitsRetire, FitsPiece, FitsBody, Fits};
+ghost use Rattle.msg_frames.specs.Frames.{mask_bit, FitsOpen, FitsTarget, FitsWrite, FitsRetire, FitsPiece};
+ghost use Rattle.msg_frames.specs.Frames.{FitsBody, Fits};
 
 use super::checks::{is_poked_csr, unmasked_zeros};
 use super::message::{Body, Head, LineWrite, Message, OpenInfo, Piece, Poke, Retire, Target};

@@ -2,7 +2,8 @@
 
 ghost use Rattle.std.specs.Prelude.{◌≡◌, ◌<◌, ◌≤◌, ℕ, List, length};
 ghost use Rattle.tandem_io.specs.Causes.{Rose};
-ghost use Rattle.msg_frames.specs.Taking.{Took, NextIs, is_ended, ArrivedIs, FrameIs, has_arrived_end, FilledIs, has_ended};
+ghost use Rattle.msg_frames.specs.Taking.{Took, NextIs, is_ended, ArrivedIs, FrameIs, has_arrived_end, FilledIs};
+ghost use Rattle.msg_frames.specs.Taking.{has_ended};
 ghost use Rattle.msg_frames.specs.Taking.{size_at_front};
 ghost use Rattle.msg_frames.specs.Reading.{is_length};
 

@@ -1,10 +1,13 @@
 //! Frames whose bytes were worked out by hand from the rules of their fields.
 
-use crate::{Form, FrameFault, MessageList, Next, decode, encode, next_message, size, well_formed};
+use crate::{
+    Arrived, Form, FrameFault, Message, MessageList, Next, decode, decode_into, encode,
+    next_message, next_message_into, size, streams_are_cut_frame_by_frame, well_formed,
+};
 use std::alloc::{AllocError, Global};
 use std::process::Abort;
 use std::test::Fail;
-use tandem_io::{Inputs, MemInputs, Slot};
+use tandem_io::{Inputs, MemInputs, Slot, Source, SureInputs};
 
 const OPEN: &[u8] = b"\x1a\0\x01\0\0\0\0\0\0\0\0\0\0\0\0\0\0\0\0\0\x01\x01\x00\x00\x00\x00\x00\x00";
 
@@ -219,52 +222,43 @@ fn stream(alloc: Global) -> Result<Vec<u8>, AllocError> {
     Ok(bytes)
 }
 
-fn holding(alloc: Global, step: usize, bytes: &[u8]) -> Result<MemInputs, AllocError> {
-    let mut ins = MemInputs::new(alloc, step.max(1));
-    ins.add("stream", bytes)?;
-    Ok(ins)
-}
-
 /// The size of the frame that comes next, where it spells a message.
-fn size_of_next(ins: &mut MemInputs) -> Option<u16> {
-    match next_message(ins) {
+fn next_size<S: Source>(src: &mut S) -> Option<u16> {
+    match next_message(src) {
         Next::Msg(message) => Some(size(&message)),
         _ => None,
     }
 }
 
 /// The fault of the frame that comes next.
-fn fault_of_next(ins: &mut MemInputs) -> Option<FrameFault> {
-    match next_message(ins) {
+fn next_fault<S: Source>(src: &mut S) -> Option<FrameFault> {
+    match next_message(src) {
         Next::Bad(broken) => Some(broken),
         _ => None,
     }
 }
 
 /// How many bytes are left where the source ends before a whole frame.
-fn rest_of_next(ins: &mut MemInputs) -> Option<u16> {
-    match next_message(ins) {
+fn next_rest<S: Source>(src: &mut S) -> Option<u16> {
+    match next_message(src) {
         Next::Ended(have) => Some(have),
         _ => None,
     }
 }
 
-fn check_stream(rt: &impl Abort, alloc: Global, step: usize) -> Result<(), AllocError> {
-    let bytes = stream(alloc)?;
-    let mut ins = holding(alloc, step, &bytes)?;
+fn check_stream<I: Inputs>(rt: &impl Abort, ins: &mut I) {
     assert_eq!(rt; ins.attach(Slot::Stream, "stream"), Ok(true));
-    assert_eq!(rt; size_of_next(&mut ins), Some(28));
-    assert_eq!(rt; size_of_next(&mut ins), Some(52));
-    assert_eq!(rt; size_of_next(&mut ins), Some(20));
+    assert_eq!(rt; next_size(ins), Some(28));
+    assert_eq!(rt; next_size(ins), Some(52));
+    assert_eq!(rt; next_size(ins), Some(20));
     let broken = FrameFault {
         form: Form::Length,
         offset: 0,
     };
-    assert_eq!(rt; fault_of_next(&mut ins), Some(broken));
-    assert_eq!(rt; fault_of_next(&mut ins), Some(broken));
-    assert_eq!(rt; rest_of_next(&mut ins), Some(3));
-    assert_eq!(rt; rest_of_next(&mut ins), Some(0));
-    Ok(())
+    assert_eq!(rt; next_fault(ins), Some(broken));
+    assert_eq!(rt; next_fault(ins), Some(broken));
+    assert_eq!(rt; next_rest(ins), Some(3));
+    assert_eq!(rt; next_rest(ins), Some(0));
 }
 
 /// Puts the message of a frame into a list, and answers how many there are and the tag of the first.
@@ -273,14 +267,55 @@ fn listed(alloc: Global, frame: &[u8]) -> Result<Option<(usize, u64)>, AllocErro
     if let Ok(message) = decode(frame) {
         list.push(message)?;
     }
-    Ok(list.get(0).map(|message| (list.len(), message.head.tag)))
+    streams_are_cut_frame_by_frame();
+    Ok(
+        list.get(0)
+            .map(|message| (list.as_slice().len(), message.head.tag)),
+    )
 }
 
 #[test]
 fn takes_frame_after_frame(rt: HostRuntime) -> Result<(), Fail> {
-    for step in [1, 7, 4096] {
-        check_stream(&rt, rt.alloc(), step)?;
+    let alloc = rt.alloc();
+    let bytes = stream(alloc)?;
+    for step in [1usize, 7, 60, 4096] {
+        let step = step.max(1);
+        let mut ins = MemInputs::new(alloc, step);
+        ins.add("stream", &bytes)?;
+        check_stream(&rt, &mut ins);
+        let mut ins = SureInputs::new(alloc, step);
+        ins.add("stream", &bytes)?;
+        check_stream(&rt, &mut ins);
     }
-    assert_eq!(rt; listed(rt.alloc(), RETIRE)?, Some((1, 1)));
+    assert_eq!(rt; listed(alloc, RETIRE)?, Some((1, 1)));
+    Ok(())
+}
+
+/// What comes next, and the tag of the message that is lent.
+fn arrival<S: Source>(src: &mut S, message: &mut Message) -> (Arrived, u64) {
+    let answer = next_message_into(src, &mut [0; 514], message);
+    (answer, message.head.tag)
+}
+
+#[test]
+fn leaves_the_message_where_there_is_none(rt: HostRuntime) -> Result<(), Fail> {
+    let mut ins = SureInputs::new(rt.alloc(), 4096);
+    ins.add("stream", &stream(rt.alloc())?)?;
+    assert_eq!(rt; ins.attach(Slot::Stream, "stream"), Ok(true));
+    let Ok(mut message) = decode(SQUASH) else {
+        return Ok(assert!(rt; false, "no Squash"));
+    };
+    assert_eq!(rt; arrival(&mut ins, &mut message), (Arrived::Message, 0));
+    assert_eq!(rt; arrival(&mut ins, &mut message), (Arrived::Message, 1));
+    assert_eq!(rt; arrival(&mut ins, &mut message), (Arrived::Message, 0));
+    assert_eq!(rt; decode_into(TRAP, &mut message), Ok(()));
+    let broken = FrameFault {
+        form: Form::Length,
+        offset: 0,
+    };
+    assert_eq!(rt; decode_into(b"", &mut message), Err(broken));
+    assert_eq!(rt; arrival(&mut ins, &mut message), (Arrived::Bad(broken), 1));
+    assert_eq!(rt; arrival(&mut ins, &mut message), (Arrived::Bad(broken), 1));
+    assert_eq!(rt; arrival(&mut ins, &mut message), (Arrived::Ended(3), 1));
     Ok(())
 }

@@ -11,7 +11,8 @@ returns-clause-found c =
 pub returns-clause-only : goal.returns-clause-only
 returns-clause-only c = λ message spells.
     let frame = c.args.frame.now in
-    ap Ok (same_ok (reading frame) _ message (c.in_ok-read_into.ensures {u = tt}).read (spells_reading frame message spells))
+    ap Ok (same_ok (reading frame) _ message (c.in_ok-read_into.ensures {u = tt}).read
+    (spells_reading frame message spells))
 
 pub returns-in_err-read_into-clause-only : goal.returns-in_err-read_into-clause-only
 returns-in_err-read_into-clause-only c = λ message spells.

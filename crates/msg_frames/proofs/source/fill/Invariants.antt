@@ -4,7 +4,8 @@ use Rattle.msg_frames.proofs.source.fill.Given as goal
 
 abbrev pub invariant-loop-have : goal.invariant-loop-have
 invariant-loop-have g l = record {
-  took : Took (g.S.Source.left l.fn.src) (g.S.Source.left l.src) (g.S.Source.log l.fn.src) (g.S.Source.log l.src) (take l.have l.buf);
+  took : Took (g.S.Source.left l.fn.src) (g.S.Source.left l.src) (g.S.Source.log l.fn.src) (g.S.Source.log l.src)
+      (take l.have l.buf);
   inside : l.have ≤ length l.buf;
   running : 0 < l.have → g.S.Source.ended l.src ≡ false;
   count : g.S.Source.faults l.fn.src ≤ g.S.Source.faults l.src;
