@@ -1,19 +1,21 @@
 -- The operations of a trace that has an instruction more.
-use Rattle.std.proofs.Common.{ℕ, ◌<◌, ◌≡◌, ◌⊎◌, inl, inr, Bool, true, false, List, Some, None, refl, sym, ap, subst, ◌∙◌, arith}
+use Rattle.std.proofs.Common.{ℕ, ◌<◌, ◌≡◌, ◌⊎◌, inl, inr, Bool, true, false, List, Some, None, refl, sym, ap, subst}
+use Rattle.std.proofs.Common.{◌∙◌, arith}
 use Rattle.std.proofs.lemmas.Bool.{false≢true, both_ways, and_parts}
+use Rattle.std.specs.List.{Contains}
 use Rattle.rv_decode.specs.declared.instruction.Insn.{Insn}
 use Rattle.rv_decode.specs.declared.instruction.Insn.TheVariants.{Store, Lr, Sc, Amo}
 use Rattle.rvwmo_model.specs.declared.instructions.Retired.{Retired}
 use Rattle.rvwmo_model.specs.declared.operations.Op.{Op}
 use Rattle.rvwmo_model.specs.declared.operations.OpKind.TheVariants as kind
 use Rattle.rvwmo_model.specs.declared.traces.Trace.{Trace}
-use Rattle.rvwmo_model.specs.Members.{In}
 use Rattle.rvwmo_model.specs.Order.{covers}
 use Rattle.rvwmo_model.specs.ProgramOrder.{insn_of, is_one}
-use Rattle.rvwmo_model.specs.Rules.{is_lr, is_sc, is_amo_or_sc}
-use Rattle.rvwmo_model.specs.Atomicity.{has_stored, IsPair, IsWithin}
+use Rattle.rvwmo_model.specs.Atomicity.{IsPair, IsWithin}
 use Rattle.rvwmo_model.specs.InForm.{IsPlaced}
-use Rattle.growth_laws.specs.Kinds.{is_store, kind_of_insn, kind_of, SameInsn, IsNamed, InExtent, IsPlainStore, IsPlainAnnotated, WellKinded}
+use Rattle.rvwmo_model.proofs.Membership.{nothing_in}
+use Rattle.growth_laws.specs.Kinds.{is_store, kind_of_insn, kind_of, SameInsn, IsNamed, InExtent, IsPlainStore}
+use Rattle.growth_laws.specs.Kinds.{IsPlainAnnotated, WellKinded}
 use Rattle.growth_laws.specs.Growth.{AddsStore, Adds, adds_loads, adds_store, adds_atomic, adds_nothing, AddInsn}
 use Rattle.growth_laws.proofs.Places.{not_both}
 use Rattle.growth_laws.proofs.Insns.{more_new, insn_is}
@@ -21,6 +23,7 @@ use Rattle.growth_laws.proofs.Lawful.{stored_sc, pair_on}
 use Rattle.growth_laws.proofs.PlainStores.{store_sc}
 use Rattle.growth_laws.proofs.Operations.{op_older, insn_still, insn_ops}
 use Rattle.growth_laws.proofs.Steps.{only}
+use Rattle.rvwmo_model.specs.InsnKinds.{is_lr, is_sc, is_amo_or_sc, has_stored}
 
 pub lr_kind : (i : Insn) (stored : Bool) → is_lr i ≡ true → kind_of_insn i stored ≡ Some kind.Load
 lr_kind (Lr wide aq rl rd rs1) stored e = refl
@@ -51,43 +54,44 @@ stored_kind r e =
 
 module _ (t t' : Trace) (r : Retired) (new : List Op) (k : WellKinded t) (s : AddInsn t t' r new) where
   abbrev Is : Op → Type 0
-  Is a = In a new ⊎ In a t.ops
+  Is a = Contains new a ⊎ Contains t.ops a
 
-  is : (a : Op) → In a t'.ops → Is a
+  is : (a : Op) → Contains t'.ops a → Is a
   is a h = s.ops_back a h
 
-  pub older : (a : Op) → In a t.ops → a.name.hart ≡ r.hart → a.name.tag < r.tag
+  pub older : (a : Op) → Contains t.ops a → a.name.hart ≡ r.hart → a.name.tag < r.tag
   older a h e = op_older t t' r new a k s h e
 
   -- a new operation is of no old instruction
-  unlike : (a b : Op) → In a new → In b t.ops → SameInsn a b → ⊥
+  unlike : (a b : Op) → Contains new a → Contains t.ops b → SameInsn a b → ⊥
   unlike a b h i e =
       let f = s.are_of.own a h in
       let l : b.name.tag < r.tag = older b i (sym e.0 ∙ f.0) in
       omega (arith, e.1, f.1)
 
-  pub new_insn : (a : Op) → In a new → insn_of t' a ≡ Some r
+  pub new_insn : (a : Op) → Contains new a → insn_of t' a ≡ Some r
   new_insn a h = insn_is t' r a (more_new t t' r s.keeps) (s.are_of.own a h)
 
-  pub old_insn : (a : Op) → In a t.ops → insn_of t' a ≡ insn_of t a
+  pub old_insn : (a : Op) → Contains t.ops a → insn_of t' a ≡ insn_of t a
   old_insn a h = insn_still t t' r new a a.name.tag k s h (inr refl)
 
   -- the instruction of a new operation, as found
-  found : (a : Op) (w : Retired) → In a new → insn_of t' a ≡ Some w → r ≡ w
+  found : (a : Op) (w : Retired) → Contains new a → insn_of t' a ≡ Some w → r ≡ w
   found a w h e = let c : Some r ≡ Some w = sym (new_insn a h) ∙ e in cc
 
   -- each way of adding, by what the operations are
-  placed_or_store : (a : Op) → In a new → IsPlaced a ⊎ ((o : Op) × AddsStore t t' r new o × (a ≡ o))
+  placed_or_store : (a : Op) → Contains new a → IsPlaced a ⊎ ((o : Op) × AddsStore t t' r new o × (a ≡ o))
   placed_or_store a h = at s.adds
     where
       at : Adds t t' r new → IsPlaced a ⊎ ((o : Op) × AddsStore t t' r new o × (a ≡ o))
       at (adds_loads l) = inl (l.placed a h)
       at (adds_store o q) = inr (o, q, only o a new q.one h)
-      at (adds_atomic e o q) = let p = k.form.early e q.was in inl (p.0, ap (λ (z : Op). z.place) (only o a new q.one h) ∙ q.place ∙ p.1)
-      at (adds_nothing n) = absurd (subst (λ (l : List Op). In a l) n.none h)
+      at (adds_atomic e o q) = let p = k.form.early e q.was in
+          inl (p.0, ap (λ (z : Op). z.place) (only o a new q.one h) ∙ q.place ∙ p.1)
+      at (adds_nothing n) = absurd (nothing_in a (subst (λ (l : List Op). Contains l a) n.none h))
 
   -- a plain store's one operation
-  plain_adds : (a : Op) → In a new → IsPlainStore t' a → (o : Op) × AddsStore t t' r new o × (a ≡ o)
+  plain_adds : (a : Op) → Contains new a → IsPlainStore t' a → (o : Op) × AddsStore t t' r new o × (a ≡ o)
   plain_adds a h p = at s.adds
     where
       store : is_store r.insn ≡ true
@@ -97,25 +101,25 @@ module _ (t t' : Trace) (r : Retired) (new : List Op) (k : WellKinded t) (s : Ad
       at (adds_loads l) = absurd (load_store r.insn r.stored l.loads store)
       at (adds_store o q) = (o, q, only o a new q.one h)
       at (adds_atomic e o q) = absurd (both_ways _ (atomic_store r.insn q.atomic) store)
-      at (adds_nothing n) = absurd (subst (λ (l : List Op). In a l) n.none h)
+      at (adds_nothing n) = absurd (nothing_in a (subst (λ (l : List Op). Contains l a) n.none h))
 
   -- an early store of t' is one of t
-  pub early_back : (a : Op) → In a t'.early → In a t.early
+  pub early_back : (a : Op) → Contains t'.early a → Contains t.early a
   early_back a h = at s.adds
     where
-      at : Adds t t' r new → In a t.early
+      at : Adds t t' r new → Contains t.early a
       at (adds_loads l) = l.early.back a h
       at (adds_store o q) = q.early.back a h
       at (adds_atomic e o q) = q.early_back a h
       at (adds_nothing n) = n.early.back a h
 
-  unperformed_new : (a : Op) → In a new → a.place ≡ None → IsPlainStore t' a
+  unperformed_new : (a : Op) → Contains new a → a.place ≡ None → IsPlainStore t' a
   unperformed_new a h e = elim (placed_or_store a h) [
     | inl p ↦ absurd (not_both a p e)
     | inr q ↦ ap (is_one is_store) (new_insn a h) ∙ q.1.stores
   ]
 
-  two_new : (a b : Op) → In a new → In b new → a.place ≡ None → b.place ≡ None → a ≡ b
+  two_new : (a b : Op) → Contains new a → Contains new b → a.place ≡ None → b.place ≡ None → a ≡ b
   two_new a b h i e f = elim (placed_or_store a h) [
     | inl p ↦ absurd (not_both a p e)
     | inr q ↦ q.2 ∙ sym (only q.0 b new q.1.one i)
@@ -144,14 +148,15 @@ module _ (t t' : Trace) (r : Retired) (new : List Op) (k : WellKinded t) (s : Ad
   waits_of a b (inr h) (inr i) e f g = k.form.waiting a b h i e.0 e.1 f g
 
   -- an AMO's operation is alone
-  amo_new : (a b : Op) → In a new → In b new → a.kind ≡ kind.Both → a ≡ b
+  amo_new : (a b : Op) → Contains new a → Contains new b → a.kind ≡ kind.Both → a ≡ b
   amo_new a b h i f = at s.adds
     where
       at : Adds t t' r new → a ≡ b
-      at (adds_loads l) = absurd (let c : Some kind.Load ≡ Some kind.Both = sym l.loads ∙ s.are_of.kinds a h ∙ ap Some f in cc)
+      at (adds_loads l) =
+          absurd (let c : Some kind.Load ≡ Some kind.Both = sym l.loads ∙ s.are_of.kinds a h ∙ ap Some f in cc)
       at (adds_store o q) = only o a new q.one h ∙ sym (only o b new q.one i)
       at (adds_atomic e o q) = only o a new q.one h ∙ sym (only o b new q.one i)
-      at (adds_nothing n) = absurd (subst (λ (l : List Op). In a l) n.none h)
+      at (adds_nothing n) = absurd (nothing_in a (subst (λ (l : List Op). Contains l a) n.none h))
 
   pub amo_of : (a b : Op) → Is a → Is b → SameInsn a b → a.kind ≡ kind.Both → a ≡ b
   amo_of a b (inl h) (inl i) e f = amo_new a b h i f
@@ -171,10 +176,16 @@ module _ (t t' : Trace) (r : Retired) (new : List Op) (k : WellKinded t) (s : Ad
   unperformed_of a (inl h) e = unperformed_new a h e
   unperformed_of a (inr h) e = ap (is_one is_store) (old_insn a h) ∙ k.unperformed a h e
 
-  pub cover_of : (a : Op) (x : ℕ) → Is a → IsPlainStore t' a → InExtent a x → (v : Op) × In v t'.ops × SameInsn v a × (covers x v ≡ true)
+  pub cover_of : (a : Op) (x : ℕ) → Is a → IsPlainStore t' a → InExtent a x → (v : Op) × Contains t'.ops v
+      × SameInsn v a × (covers x v ≡ true)
   cover_of a x (inl h) p e =
-      let q = plain_adds a h p in
-      (a, s.added a h, (refl, refl), subst (λ (z : Op). covers x z ≡ true) (sym q.2) (q.1.all x (subst (λ (z : Op). InExtent z x) q.2 e)))
+      let q = plain_adds a h p in (
+        a,
+        s.added a h,
+        (refl, refl),
+        subst (λ (z : Op). covers x z ≡ true) (sym q.2)
+            (q.1.all x (subst (λ (z : Op). InExtent z x) q.2 e)),
+      )
   cover_of a x (inr h) p e =
       let v = k.cover a x h (ap (is_one is_store) (sym (old_insn a h)) ∙ p) e in
       (v.0, s.ops_on v.0 v.1, v.2, v.3)
@@ -183,19 +194,23 @@ module _ (t t' : Trace) (r : Retired) (new : List Op) (k : WellKinded t) (s : Ad
   plain_of a (inl h) p = let q = plain_adds a h p in subst IsPlainAnnotated (sym q.2) q.1.plain
   plain_of a (inr h) p = k.plain a h (ap (is_one is_store) (sym (old_insn a h)) ∙ p)
 
-  paired_new : (w : Op) → In w new → has_stored (Some r) ≡ true → (l : Op) × IsPair t' l w × IsWithin w l
+  paired_new : (w : Op) → Contains new w → has_stored (Some r) ≡ true → (l : Op) × IsPair t' l w × IsWithin w l
   paired_new w h q = at s.adds
     where
       at : Adds t t' r new → (l : Op) × IsPair t' l w × IsWithin w l
       at (adds_loads a) = absurd (let c : Some kind.Load ≡ Some kind.Store = sym a.loads ∙ stored_kind r q in cc)
       at (adds_store o a) = absurd (both_ways _ (store_sc r.insn a.stores) (stored_sc (Some r) q))
-      at (adds_atomic e o a) = let l = a.pair (stored_sc (Some r) q) in subst (λ (z : Op). (l : Op) × IsPair t' l z × IsWithin z l) (sym (only o w new a.one h)) (l.0, l.1, l.2)
-      at (adds_nothing n) = absurd (subst (λ (z : List Op). In w z) n.none h)
+      at (adds_atomic e o a) = let l = a.pair (stored_sc (Some r) q) in
+          subst (λ (z : Op). (l : Op) × IsPair t' l z × IsWithin z l) (sym (only o w new a.one h)) (l.0, l.1, l.2)
+      at (adds_nothing n) = absurd (nothing_in w (subst (λ (z : List Op). Contains z w) n.none h))
 
   pub paired_of : (w : Op) → Is w → has_stored (insn_of t' w) ≡ true → (l : Op) × IsPair t' l w × IsWithin w l
   paired_of w (inl h) q = paired_new w h (ap has_stored (sym (new_insn w h)) ∙ q)
-  paired_of w (inr h) q = let l = k.paired w h (ap has_stored (sym (old_insn w h)) ∙ q) in (l.0, pair_on t t' k (insn_ops t t' r new k s) l.0 w l.1, l.2)
+  paired_of w (inr h) q = let l = k.paired w h (ap has_stored (sym (old_insn w h)) ∙ q) in
+      (l.0, pair_on t t' k (insn_ops t t' r new k s) l.0 w l.1, l.2)
 
-  pub younger_of : (o : Op) (w : Retired) → In o t'.early → (w ≡ r) ⊎ In w t.insns → w.hart ≡ o.name.hart → w.tag < o.name.tag
-  younger_of o w h (inl e) q = let l : r.tag < o.name.tag = s.older o h (sym q ∙ ap (λ (z : Retired). z.hart) e) in omega (arith, ap (λ (z : Retired). z.tag) e)
+  pub younger_of : (o : Op) (w : Retired) → Contains t'.early o → (w ≡ r) ⊎ Contains t.insns w → w.hart ≡ o.name.hart
+      → w.tag < o.name.tag
+  younger_of o w h (inl e) q = let l : r.tag < o.name.tag = s.older o h (sym q ∙ ap (λ (z : Retired). z.hart) e) in
+      omega (arith, ap (λ (z : Retired). z.tag) e)
   younger_of o w h (inr i) q = k.early_younger o w (early_back o h) i q

@@ -1,10 +1,10 @@
 -- Any number of steps: sources are stable, and nothing is mended.
 use Rattle.std.proofs.Common.{ℕ, ◌≡◌, ◌⊎◌, inl, inr, true, refl, ◌∙◌}
 use Rattle.std.proofs.lemmas.Bool.{and_parts}
+use Rattle.std.specs.List.{Contains}
 use Rattle.rvwmo_model.specs.declared.operations.Op.{Op}
 use Rattle.rvwmo_model.specs.declared.preserved.Rule.{Rule}
 use Rattle.rvwmo_model.specs.declared.traces.Trace.{Trace}
-use Rattle.rvwmo_model.specs.Members.{In}
 use Rattle.rvwmo_model.specs.Order.{loads, covers, reads}
 use Rattle.rvwmo_model.specs.Sources.{origin}
 use Rattle.rvwmo_model.specs.Atomicity.{Torn}
@@ -17,7 +17,7 @@ use Rattle.growth_laws.proofs.Pairs.{origin_on, broken_on, overlap_on}
 use Rattle.growth_laws.proofs.Lawful.{value_on, torn_on, legal_back}
 use Rattle.growth_laws.proofs.Growths.{grows_chain}
 
-pub chain_stays : (t v : Trace) (i : Op) → Chain t v → In i t.ops → IsPlaced i → In i v.ops
+pub chain_stays : (t v : Trace) (i : Op) → Chain t v → Contains t.ops i → IsPlaced i → Contains v.ops i
 chain_stays _ _ i (none t) h p = h
 chain_stays _ _ i (then t u v c g) h p = g.operations.stays i (chain_stays t u i c h p) p
 
@@ -32,14 +32,20 @@ chain_broken _ _ r (then t u v c g) b = elim (chain_broken t u r c b) [
   | inr o ↦ inr (overlap_on u v g.before g.after g.writers g.operations o)
 ]
 
-pub chain_origin : (t v : Trace) (i : Op) (x : ℕ) → Chain t v → In i t.ops → IsPlaced i → reads x i ≡ true → (origin v i x ≡ origin t i x) ⊎ HasOverlap v
+pub chain_origin : (t v : Trace) (i : Op) (x : ℕ) → Chain t v → Contains t.ops i → IsPlaced i → reads x i ≡ true
+    → (origin v i x ≡ origin t i x) ⊎ HasOverlap v
 chain_origin _ _ i x (none t) h p q = inl refl
 chain_origin _ _ i x (then t u v c g) h p q = elim (chain_origin t u i x c h p q) [
   | inr b ↦ inr (overlap_on u v g.before g.after g.writers g.operations b)
-  | inl e ↦ elim (origin_on u v g.before g.after g.writers g.operations i x (chain_stays t u i c h p) q) [ inl f ↦ inl (f ∙ e) | inr b ↦ inr b ]
+  | inl e ↦ elim (origin_on u v g.before g.after g.writers g.operations i x (chain_stays t u i c h p) q) [
+    | inl f ↦ inl
+        (f ∙ e)
+    | inr b ↦ inr b
+  ]
 ]
 
-pub chain_value : (initial : ℕ → ℕ) (t v : Trace) (i : Op) (x : ℕ) → Chain t v → WrongValue initial t i x → WrongValue initial v i x ⊎ HasOverlap v
+pub chain_value : (initial : ℕ → ℕ) (t v : Trace) (i : Op) (x : ℕ) → Chain t v → WrongValue initial t i x
+    → WrongValue initial v i x ⊎ HasOverlap v
 chain_value initial _ _ i x (none t) w = inl w
 chain_value initial _ _ i x (then t u v c g) w = elim (chain_value initial t u i x c w) [
   | inl a ↦ value_on u v g.before g.after g.writers g.operations initial i x a
@@ -54,7 +60,8 @@ chain_torn _ _ r w (then t u v c g) p = elim (chain_torn t u r w c p) [
 ]
 
 pub stable_sources : StableSources
-stable_sources t t' i x k g h q = chain_origin t t' i x (grows_chain t t' k g) h (load_placed t i k h (and_parts (loads i) (covers x i) q).0) q
+stable_sources t t' i x k g h q =
+    chain_origin t t' i x (grows_chain t t' k g) h (load_placed t i k h (and_parts (loads i) (covers x i) q).0) q
 
 pub no_mending : NoMending
 no_mending initial t t' k g =
@@ -64,5 +71,6 @@ no_mending initial t t' k g =
       overlaps = chain_overlap t t' c;
       values = λ i x v. chain_value initial t t' i x c v;
       atomicity = λ r w p. chain_torn t t' r w c p;
-      legal = legal_back initial t t' k (λ r b. chain_broken t t' r c b) (λ i x v. chain_value initial t t' i x c v) (λ r w p. chain_torn t t' r w c p);
+      legal = legal_back initial t t' k (λ r b. chain_broken t t' r c b) (λ i x v. chain_value initial t t' i x c v)
+          (λ r w p. chain_torn t t' r w c p);
     }

@@ -4,7 +4,8 @@ use Rattle.rvwmo_model.specs.declared.instructions.Retired.{Retired}
 use Rattle.rvwmo_model.specs.declared.operations.Op.{Op}
 use Rattle.rvwmo_model.specs.declared.traces.Trace.{Trace}
 use Rattle.growth_laws.specs.Kinds.{WellKinded}
-use Rattle.growth_laws.specs.Growth.{Same, AddEarly, AddInsn, PerformsPart, Performs, no_parts, more_parts, Growth, grow_same, grow_early, grow_insn, grow_stores, Grows, no_growth, more_growth}
+use Rattle.growth_laws.specs.Growth.{Same, AddEarly, AddInsn, PerformsPart, Performs, no_parts, more_parts, Growth}
+use Rattle.growth_laws.specs.Growth.{grow_same, grow_early, grow_insn, grow_stores, Grows, no_growth, more_growth}
 use Rattle.growth_laws.specs.Laws.{KeepsWellKinded}
 use Rattle.growth_laws.proofs.Links.{Link, Chain, none, then, chain_join}
 use Rattle.growth_laws.proofs.Steps.{same_writers, early_writers, insn_writers, part_writers}
@@ -14,16 +15,40 @@ use Rattle.growth_laws.proofs.KeptInsn.{insn_kinded}
 use Rattle.growth_laws.proofs.KeptPart.{part_kinded}
 
 pub same_link : (t t' : Trace) → WellKinded t → Same t t' → Link t t'
-same_link t t' k s = record { before = k; after = same_kinded t t' k s; writers = λ x. same_writers t t' x s; operations = same_ops t t' s }
+same_link t t' k s =
+    record {
+      before = k;
+      after = same_kinded t t' k s;
+      writers = λ x. same_writers t t' x s;
+      operations = same_ops t t' s;
+    }
 
 pub early_link : (t t' : Trace) (e : Op) → WellKinded t → AddEarly t t' e → Link t t'
-early_link t t' e k s = record { before = k; after = early_kinded t t' e k s; writers = λ x. early_writers t t' e x s; operations = early_ops t t' e s }
+early_link t t' e k s =
+    record {
+      before = k;
+      after = early_kinded t t' e k s;
+      writers = λ x. early_writers t t' e x s;
+      operations = early_ops t t' e s;
+    }
 
 pub insn_link : (t t' : Trace) (r : Retired) (new : List Op) → WellKinded t → AddInsn t t' r new → Link t t'
-insn_link t t' r new k s = record { before = k; after = insn_kinded t t' r new k s; writers = λ x. insn_writers t t' r new x k s; operations = insn_ops t t' r new k s }
+insn_link t t' r new k s =
+    record {
+      before = k;
+      after = insn_kinded t t' r new k s;
+      writers = λ x. insn_writers t t' r new x k s;
+      operations = insn_ops t t' r new k s;
+    }
 
 pub part_link : (t t' : Trace) (o n : Op) (rest : Option Op) → WellKinded t → PerformsPart t t' o n rest → Link t t'
-part_link t t' o n rest k s = record { before = k; after = part_kinded t t' o n rest k s; writers = λ x. part_writers t t' o n rest x k s; operations = part_ops t t' o n rest s }
+part_link t t' o n rest k s =
+    record {
+      before = k;
+      after = part_kinded t t' o n rest k s;
+      writers = λ x. part_writers t t' o n rest x k s;
+      operations = part_ops t t' o n rest s;
+    }
 
 -- what a chain leads to is well kinded
 pub chain_kinded : (t v : Trace) → WellKinded t → Chain t v → WellKinded v

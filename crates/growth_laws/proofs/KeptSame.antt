@@ -1,17 +1,17 @@
 -- Nothing, and an early store more, keep a trace well kinded.
 use Rattle.std.proofs.Common.{◌<◌, ◌≡◌, ◌⊎◌, inl, inr, Some, None, sym, ap, subst, ◌∙◌}
 use Rattle.std.proofs.lemmas.Bool.{both_ways}
+use Rattle.std.specs.List.{Contains}
+use Rattle.std.proofs.lemmas.List.Elements.{Contains-append_cases, Contains-append_left, Contains-append_right}
 use Rattle.tandem_base.specs.declared.names.Place.{Place}
 use Rattle.rvwmo_model.specs.declared.instructions.Retired.{Retired}
 use Rattle.rvwmo_model.specs.declared.operations.Op.{Op}
 use Rattle.rvwmo_model.specs.declared.operations.OpKind.TheVariants as kind
 use Rattle.rvwmo_model.specs.declared.traces.Trace.{Trace}
-use Rattle.rvwmo_model.specs.Members.{In, everything}
 use Rattle.rvwmo_model.specs.ProgramOrder.{insn_of, is_one}
-use Rattle.rvwmo_model.specs.Rules.{is_lr}
-use Rattle.rvwmo_model.specs.Atomicity.{has_stored}
 use Rattle.rvwmo_model.specs.InForm.{IsPlaced, IsWhole, IsGranule, HasOne, InForm}
-use Rattle.rvwmo_model.proofs.Membership.{in_left, in_right, in_cases}
+use Rattle.growth_laws.proofs.Facts.{names_apart}
+use Rattle.rvwmo_model.proofs.Totality.{one_name}
 use Rattle.growth_laws.specs.Kinds.{is_store, SameInsn, IsPlainStore, WellKinded}
 use Rattle.growth_laws.specs.Growth.{SameMembers, Keeps, Same, AddEarly}
 use Rattle.growth_laws.proofs.Insns.{insns_back, one_place}
@@ -19,15 +19,19 @@ use Rattle.growth_laws.proofs.Links.{OpsGo}
 use Rattle.growth_laws.proofs.Lawful.{pair_on}
 use Rattle.growth_laws.proofs.Operations.{same_ops, early_ops}
 use Rattle.growth_laws.proofs.Steps.{grows}
+use Rattle.rvwmo_model.specs.Order.{everything}
+use Rattle.rvwmo_model.specs.InsnKinds.{is_lr, has_stored}
 
 -- what is asked of the early stores, and of all operations together
 pub record EarlyFit (t : Trace) : Type 0 where
-  pub placed : (o : Op) → In o t.early → IsPlaced o
-  pub places : (a b : Op) (p : Place) → In a (everything t) → In b (everything t) → a.place ≡ Some p → b.place ≡ Some p → a ≡ b
-  pub whole : (o : Op) → In o (everything t) → IsWhole o
-  pub stores : (o : Op) → In o t.early → o.kind ≡ kind.Store
-  pub apart : (a b : Op) → In a t.early → In b t.early → SameInsn a b → a ≡ b
-  pub younger : (o : Op) (w : Retired) → In o t.early → In w t.insns → w.hart ≡ o.name.hart → w.tag < o.name.tag
+  pub placed : (o : Op) → Contains t.early o → IsPlaced o
+  pub places : (a b : Op) (p : Place) → Contains (everything t) a → Contains (everything t) b → a.place ≡ Some p
+      → b.place ≡ Some p → a ≡ b
+  pub whole : (o : Op) → Contains (everything t) o → IsWhole o
+  pub stores : (o : Op) → Contains t.early o → o.kind ≡ kind.Store
+  pub apart : (a b : Op) → Contains t.early a → Contains t.early b → SameInsn a b → a ≡ b
+  pub younger : (o : Op) (w : Retired) → Contains t.early o → Contains t.insns w → w.hart ≡ o.name.hart
+      → w.tag < o.name.tag
 
 -- where operations and instructions stay, the rest is so
 module _ (t t' : Trace) (k : WellKinded t) (s : Keeps t t' None) (ops : SameMembers t.ops t'.ops) (g : OpsGo t t') where
@@ -44,7 +48,7 @@ module _ (t t' : Trace) (k : WellKinded t) (s : Keeps t t' None) (ops : SameMemb
   still_form e = record {
     rising = s.rising;
     named = λ o h. let w = k.form.named o (ops.back o h) in (w.0, same_of o ∙ w.1);
-    apart = λ a b h i. k.form.apart a b (ops.back a h) (ops.back b i);
+    apart = names_apart t'.ops s.once (λ a b h i. one_name t a b k.form (ops.back a h) (ops.back b i));
     waiting = λ a b h i. k.form.waiting a b (ops.back a h) (ops.back b i);
     early = e.placed;
     places = e.places;
@@ -68,7 +72,8 @@ module _ (t t' : Trace) (k : WellKinded t) (s : Keeps t t' None) (ops : SameMemb
     plain = λ o h p. k.plain o (ops.back o h) (plain_back o p);
     early_apart = e.apart;
     early_younger = e.younger;
-    paired = λ w h q. let r = k.paired w (ops.back w h) (ap has_stored (sym (same_of w)) ∙ q) in (r.0, pair_on t t' k g r.0 w r.1, r.2);
+    paired = λ w h q. let r = k.paired w (ops.back w h) (ap has_stored (sym (same_of w)) ∙ q) in
+        (r.0, pair_on t t' k g r.0 w r.1, r.2);
   }
 
 pub same_kinded : (t t' : Trace) → WellKinded t → Same t t' → WellKinded t'
@@ -81,7 +86,7 @@ same_kinded t t' k s = still_kinded t t' k s.keeps s.ops (same_ops t t' s) (reco
   younger = λ o w h i. k.early_younger o w (s.early.back o h) (insns_back t t' s.keeps w i);
 })
   where
-    back : (o : Op) → In o (everything t') → In o (everything t)
+    back : (o : Op) → Contains (everything t') o → Contains (everything t) o
     back = grows t' t s.ops.back s.early.back
 
 pub early_kinded : (t t' : Trace) (e : Op) → WellKinded t → AddEarly t t' e → WellKinded t'
@@ -92,28 +97,32 @@ early_kinded t t' e k s = still_kinded t t' k s.keeps s.ops (early_ops t t' e s)
   stores = λ o h. elim (s.early_back o h) [ inl q ↦ ap (λ (z : Op). z.kind) q ∙ s.kind | inr i ↦ k.early_stores o i ];
   apart = λ a b h i. apart a b (s.early_back a h) (s.early_back b i);
   younger = λ o w h i q. elim (s.early_back o h) [
-    | inl f ↦ subst (λ (z : Op). w.tag < z.name.tag) (sym f) (s.younger w (insns_back t t' s.keeps w i) (q ∙ ap (λ (z : Op). z.name.hart) f))
+    | inl f ↦ subst (λ (z : Op). w.tag < z.name.tag) (sym f)
+        (s.younger w (insns_back t t' s.keeps w i) (q ∙ ap (λ (z : Op). z.name.hart) f))
     | inr j ↦ k.early_younger o w j (insns_back t t' s.keeps w i) q
   ];
 })
   where
-    back : (o : Op) → In o (everything t') → (o ≡ e) ⊎ In o (everything t)
-    back o h = elim (in_cases t'.ops t'.early o h) [
-      | inl a ↦ inr (in_left t.ops t.early o (s.ops.back o a))
-      | inr b ↦ elim (s.early_back o b) [ inl q ↦ inl q | inr c ↦ inr (in_right t.ops t.early o c) ]
+    back : (o : Op) → Contains (everything t') o → (o ≡ e) ⊎ Contains (everything t) o
+    back o h = elim (Contains-append_cases t'.ops t'.early o h) [
+      | inl a ↦ inr (Contains-append_left t.ops t.early o (s.ops.back o a))
+      | inr b ↦ elim (s.early_back o b) [ inl q ↦ inl q | inr c ↦ inr (Contains-append_right t.ops t.early o c) ]
     ]
 
-    meets : (b : Op) (p : Place) → In b (everything t) → e.place ≡ Some p → b.place ≡ Some p → ⊥
+    meets : (b : Op) (p : Place) → Contains (everything t) b → e.place ≡ Some p → b.place ≡ Some p → ⊥
     meets b p h f g = both_ways _ (one_place b e p g f) (s.above b h (p, g))
 
-    two : (a b : Op) (p : Place) → (a ≡ e) ⊎ In a (everything t) → (b ≡ e) ⊎ In b (everything t) → a.place ≡ Some p → b.place ≡ Some p → a ≡ b
+    two : (a b : Op) (p : Place) → (a ≡ e) ⊎ Contains (everything t) a → (b ≡ e) ⊎ Contains (everything t) b
+        → a.place ≡ Some p → b.place ≡ Some p → a ≡ b
     two a b p (inl f) (inl g) q r = f ∙ sym g
     two a b p (inl f) (inr i) q r = absurd (meets b p i (sym (ap (λ (z : Op). z.place) f) ∙ q) r)
     two a b p (inr i) (inl g) q r = absurd (meets a p i (sym (ap (λ (z : Op). z.place) g) ∙ r) q)
     two a b p (inr i) (inr j) q r = k.form.places a b p i j q r
 
-    apart : (a b : Op) → (a ≡ e) ⊎ In a t.early → (b ≡ e) ⊎ In b t.early → SameInsn a b → a ≡ b
+    apart : (a b : Op) → (a ≡ e) ⊎ Contains t.early a → (b ≡ e) ⊎ Contains t.early b → SameInsn a b → a ≡ b
     apart a b (inl f) (inl g) q = f ∙ sym g
-    apart a b (inl f) (inr i) q = absurd (s.fresh b i (sym q.0 ∙ ap (λ (z : Op). z.name.hart) f, sym q.1 ∙ ap (λ (z : Op). z.name.tag) f))
-    apart a b (inr i) (inl g) q = absurd (s.fresh a i (q.0 ∙ ap (λ (z : Op). z.name.hart) g, q.1 ∙ ap (λ (z : Op). z.name.tag) g))
+    apart a b (inl f) (inr i) q =
+        absurd (s.fresh b i (sym q.0 ∙ ap (λ (z : Op). z.name.hart) f, sym q.1 ∙ ap (λ (z : Op). z.name.tag) f))
+    apart a b (inr i) (inl g) q =
+        absurd (s.fresh a i (q.0 ∙ ap (λ (z : Op). z.name.hart) g, q.1 ∙ ap (λ (z : Op). z.name.tag) g))
     apart a b (inr i) (inr j) q = k.early_apart a b i j q

@@ -3,12 +3,9 @@ pub mod Backward
 pub mod Chains
 pub mod ChainsBack
 pub mod Comings
-pub mod Example
-pub mod ExampleInsns
 pub mod Facts
 pub mod FaultSteps
 pub mod FaultStores
-pub mod Formed
 pub mod Growths
 pub mod Insns
 pub mod KeptInsn
@@ -17,7 +14,6 @@ pub mod KeptSame
 pub mod Lawful
 pub mod Links
 pub mod Messages
-pub mod Occurring
 pub mod Operations
 pub mod Pairs
 pub mod Parts
@@ -25,6 +21,7 @@ pub mod Places
 pub mod PlacesOfFault
 pub mod PlainStores
 pub mod Quiet
+pub mod ReadOperations
 pub mod Reduction
 pub mod SameInsns
 pub mod Settled

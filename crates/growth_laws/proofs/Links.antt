@@ -1,8 +1,8 @@
 -- What one elementary step of growth does to stores and operations; chains of such steps.
 use Rattle.std.proofs.Common.{ℕ, ◌<◌, ◌≡◌, ◌⊎◌, true}
+use Rattle.std.specs.List.{Contains}
 use Rattle.rvwmo_model.specs.declared.operations.Op.{Op}
 use Rattle.rvwmo_model.specs.declared.traces.Trace.{Trace}
-use Rattle.rvwmo_model.specs.Members.{In}
 use Rattle.rvwmo_model.specs.Order.{covers}
 use Rattle.rvwmo_model.specs.ProgramOrder.{insn_at}
 use Rattle.rvwmo_model.specs.InForm.{IsPlaced}
@@ -15,14 +15,18 @@ pub record IsLike (n o : Op) : Type 0 where
   pub acquire : n.acquire ≡ o.acquire
   pub release : n.release ≡ o.release
 
--- performed operations stay, each byte of another is found in what it becomes, and the instructions up to an operation stay
+-- performed operations stay, each byte of another is found in what it becomes, and the instructions up to an
+-- operation stay
 pub record OpsGo (t t' : Trace) : Type 0 where
-  pub stays : (v : Op) → In v t.ops → IsPlaced v → In v t'.ops
-  pub lift : (v : Op) (x : ℕ) → In v t.ops → covers x v ≡ true → (n : Op) × In n t'.ops × (covers x n ≡ true) × Becomes t v n × IsLike n v
-  pub insns : (v : Op) (k : ℕ) → In v t.ops → (k < v.name.tag) ⊎ (k ≡ v.name.tag) → insn_at t'.insns v.name.hart k ≡ insn_at t.insns v.name.hart k
+  pub stays : (v : Op) → Contains t.ops v → IsPlaced v → Contains t'.ops v
+  pub lift : (v : Op) (x : ℕ) → Contains t.ops v → covers x v ≡ true → (n : Op) × Contains t'.ops n
+      × (covers x n ≡ true) × Becomes t v n × IsLike n v
+  pub insns : (v : Op) (k : ℕ) → Contains t.ops v → (k < v.name.tag) ⊎ (k ≡ v.name.tag)
+      → insn_at t'.insns v.name.hart k ≡ insn_at t.insns v.name.hart k
   pub granule : t'.granule ≡ t.granule
 
--- one elementary step, with all that it keeps: nothing, an early store, an instruction, or one part of a message that performs stores
+-- one elementary step, with all that it keeps: nothing, an early store, an instruction, or one part of a message that
+-- performs stores
 pub record Link (t t' : Trace) : Type 0 where
   pub before : WellKinded t
   pub after : WellKinded t'

@@ -14,19 +14,27 @@ use Rattle.growth_laws.proofs.FaultSteps.{early_breaks_nothing, insn_breaks_its_
 use Rattle.growth_laws.proofs.FaultStores.{stores_break_pairs}
 
 -- the second operation of a broken pair of the least rule is of the growing hart
-pub second_hart : (initial : ℕ → ℕ) (t t' : Trace) (h : ℕ) (g : Growth t t') → WellKinded t → Legal initial t → IsGrowing g h → (k : Rule) (a b : Op) → IsLeastRule t' k → Broken k t' a b → b.name.hart ≡ h
-second_hart initial t t' h (grow_same s) w legal e k a b least p = absurd ((early_breaks_nothing initial t t' w legal (inl s)).ordered k a b p)
-second_hart initial t t' h (grow_early v s) w legal e k a b least p = absurd ((early_breaks_nothing initial t t' w legal (inr (v, s))).ordered k a b p)
-second_hart initial t t' h (grow_insn r new s) w legal e k a b least p = ((insn_breaks_its_own initial t t' r new w legal s).pairs k a b p).0 ∙ e
-second_hart initial t t' h (grow_stores g parts s) w legal e k a b least p = performs_hart g t t' parts s b ((stores_break_pairs initial t t' g parts w legal s).pair k a b least p).second ∙ e
+pub second_hart : (initial : ℕ → ℕ) (t t' : Trace) (h : ℕ) (g : Growth t t') → WellKinded t → Legal initial t
+    → IsGrowing g h → (k : Rule) (a b : Op) → IsLeastRule t' k → Broken k t' a b → b.name.hart ≡ h
+second_hart initial t t' h (grow_same s) w legal e k a b least p =
+    absurd ((early_breaks_nothing initial t t' w legal (inl s)).ordered k a b p)
+second_hart initial t t' h (grow_early v s) w legal e k a b least p =
+    absurd ((early_breaks_nothing initial t t' w legal (inr (v, s))).ordered k a b p)
+second_hart initial t t' h (grow_insn r new s) w legal e k a b least p =
+    ((insn_breaks_its_own initial t t' r new w legal s).pairs k a b p).0 ∙ e
+second_hart initial t t' h (grow_stores g parts s) w legal e k a b least p =
+    performs_hart g t t' parts s b ((stores_break_pairs initial t t' g parts w legal s).pair k a b least p).second ∙ e
 
 module _ (t : Trace) (h : ℕ) (on : (k : Rule) (a b : Op) → IsLeastRule t k → Broken k t a b → b.name.hart ≡ h) where
   -- where no pair of the hart is broken by a lesser rule, none is
-  none_below : (n : ℕ) (k : Rule) → ((j : Rule) → number j < number k → (a b : Op) → BrokenOn h j t a b → ⊥) → (j : Rule) → number j < n → number j < number k → (a b : Op) → Broken j t a b → ⊥
+  none_below : (n : ℕ) (k : Rule) → ((j : Rule) → number j < number k → (a b : Op) → BrokenOn h j t a b → ⊥)
+      → (j : Rule) → number j < n → number j < number k → (a b : Op) → Broken j t a b → ⊥
   none_below zero k none j l m a b p = absurd (omega arith)
-  none_below (suc n) k none j l m a b p = none j m a b (p, on j a b (λ i q. none_below n k none i (omega arith) (omega arith)) p)
+  none_below (suc n) k none j l m a b p =
+      none j m a b (p, on j a b (λ i q. none_below n k none i (omega arith) (omega arith)) p)
 
-  pub least_of_hart : (k : Rule) → ((j : Rule) → number j < number k → (a b : Op) → BrokenOn h j t a b → ⊥) → IsLeastRule t k
+  pub least_of_hart : (k : Rule) → ((j : Rule) → number j < number k → (a b : Op) → BrokenOn h j t a b → ⊥)
+      → IsLeastRule t k
   least_of_hart k none j l = none_below (number k) k none j l l
 
   pub report_to : (k : Rule) (a b : Op) → IsReported t k a b → IsReportedOn h t k a b
@@ -42,7 +50,10 @@ module _ (t : Trace) (h : ℕ) (on : (k : Rule) (a b : Op) → IsLeastRule t k �
   pub report_from : (k : Rule) (a b : Op) → IsReportedOn h t k a b → IsReported t k a b
   report_from k a b p = record {
     rule = least;
-    second = record { offends = (a, p.first.here.0); least = λ v q. p.second.least v (q.0, (q.1, on k q.0 v least q.1)) };
+    second = record {
+      offends = (a, p.first.here.0);
+      least = λ v q. p.second.least v (q.0, (q.1, on k q.0 v least q.1));
+    };
     first = record { here = p.first.here.0; latest = λ u q. p.first.latest u (q, p.first.here.1) };
   }
     where

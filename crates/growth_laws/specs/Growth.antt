@@ -1,32 +1,32 @@
 -- How a trace grows. Lists of operations are compared by their members, instructions by hart and tag.
-use Rattle.std.specs.Prelude.{ℕ, ◌<◌, ◌≡◌, ◌⊎◌, ◌==◌, ◌&&◌, List, [], ◌∷◌, true, None, Some, if◌then◌else◌}
+use Rattle.std.specs.Prelude.{ℕ, ◌<◌, ◌≡◌, ◌≢◌, ◌⊎◌, ◌==◌, ◌&&◌, List, [], ◌∷◌, true, None, Some, if◌then◌else◌}
 use Rattle.std.specs.declared.option.Option.{Option}
+use Rattle.std.specs.List.{Contains, AllPairs}
 use Rattle.tandem_base.specs.declared.names.Place.{Place}
 use Rattle.tandem_base.specs.Extents.{IsAligned}
 use Rattle.rvwmo_model.specs.declared.instructions.Retired.{Retired}
 use Rattle.rvwmo_model.specs.declared.operations.Op.{Op}
 use Rattle.rvwmo_model.specs.declared.operations.OpKind.TheVariants as kind
 use Rattle.rvwmo_model.specs.declared.traces.Trace.{Trace}
-use Rattle.rvwmo_model.specs.Members.{In, everything}
-use Rattle.rvwmo_model.specs.Order.{covers, precedes, put_at}
+use Rattle.rvwmo_model.specs.Order.{covers, precedes, put_at, everything}
 use Rattle.rvwmo_model.specs.ProgramOrder.{insn_at}
-use Rattle.rvwmo_model.specs.Rules.{is_lr, is_sc, is_amo_or_sc}
 use Rattle.rvwmo_model.specs.Atomicity.{IsPair, IsWithin}
 use Rattle.rvwmo_model.specs.InForm.{AreRising, IsPlaced, IsOf, IsWhole}
 use Rattle.growth_laws.specs.Kinds.{is_store, kind_of, SameInsn, IsNamed, InExtent, IsPlainAnnotated}
+use Rattle.rvwmo_model.specs.InsnKinds.{is_lr, is_sc, is_amo_or_sc}
 
 -- two lists have the same members
 pub record SameMembers (xs ys : List Op) : Type 0 where
-  pub on : (v : Op) → In v xs → In v ys
-  pub back : (v : Op) → In v ys → In v xs
+  pub on : (v : Op) → Contains xs v → Contains ys v
+  pub back : (v : Op) → Contains ys v → Contains xs v
 
 -- all that is performed precedes n
 abbrev pub IsAbove : Trace → Op → Type 0
-IsAbove t n = (v : Op) → In v (everything t) → IsPlaced v → precedes v n ≡ true
+IsAbove t n = (v : Op) → Contains (everything t) v → IsPlaced v → precedes v n ≡ true
 
 -- n is later in program order than all instructions of its hart that retired
 abbrev pub IsYounger : Trace → Op → Type 0
-IsYounger t n = (w : Retired) → In w t.insns → w.hart ≡ n.name.hart → w.tag < n.name.tag
+IsYounger t n = (w : Retired) → Contains t.insns w → w.hart ≡ n.name.hart → w.tag < n.name.tag
 
 -- the instructions are those of t, and r where there is one more
 abbrev pub with_insn : Trace → Option Retired → ℕ → ℕ → Option Retired
@@ -37,6 +37,8 @@ with_insn t (Some r) h k = if (r.hart == h) && (r.tag == k) then Some r else ins
 pub record Keeps (t t' : Trace) (more : Option Retired) : Type 0 where
   pub insns : (h k : ℕ) → insn_at t'.insns h k ≡ with_insn t more h k
   pub rising : AreRising t'.insns
+  -- no operation stands twice in the list
+  pub once : AllPairs (λ a b. a ≢ b) t'.ops
   pub granule : t'.granule ≡ t.granule
 
 -- ---- nothing
@@ -52,9 +54,9 @@ pub record Same (t t' : Trace) : Type 0 where
 pub record AddEarly (t t' : Trace) (e : Op) : Type 0 where
   pub keeps : Keeps t t' None
   pub ops : SameMembers t.ops t'.ops
-  pub early_on : (v : Op) → In v t.early → In v t'.early
-  pub early_back : (v : Op) → In v t'.early → (v ≡ e) ⊎ In v t.early
-  pub added : In e t'.early
+  pub early_on : (v : Op) → Contains t.early v → Contains t'.early v
+  pub early_back : (v : Op) → Contains t'.early v → (v ≡ e) ⊎ Contains t.early v
+  pub added : Contains t'.early e
   pub kind : e.kind ≡ kind.Store
   pub whole : IsWhole e
   -- at a place above all that there are
@@ -62,25 +64,27 @@ pub record AddEarly (t t' : Trace) (e : Op) : Type 0 where
   pub above : IsAbove t e
   -- its instruction is younger than all that retired, and has no early store yet
   pub younger : IsYounger t e
-  pub fresh : (v : Op) → In v t.early → SameInsn v e → ⊥
+  pub fresh : (v : Op) → Contains t.early v → SameInsn v e → ⊥
 
 -- ---- an instruction more, with its operations
 
 -- they are of r, of its kind and of one extent, have no common byte, and are named by their lowest bytes
 pub record AreOf (r : Retired) (new : List Op) : Type 0 where
-  pub own : (v : Op) → In v new → IsOf r v
-  pub kinds : (v : Op) → In v new → kind_of r ≡ Some v.kind
-  pub whole : (v : Op) → In v new → IsWhole v
-  pub parts : (v : Op) → In v new → IsNamed v
-  pub extents : (a b : Op) → In a new → In b new → a.extent ≡ b.extent
-  pub disjoint : (a b : Op) (x : ℕ) → In a new → In b new → covers x a ≡ true → covers x b ≡ true → a ≡ b
+  pub own : (v : Op) → Contains new v → IsOf r v
+  pub kinds : (v : Op) → Contains new v → kind_of r ≡ Some v.kind
+  pub whole : (v : Op) → Contains new v → IsWhole v
+  pub parts : (v : Op) → Contains new v → IsNamed v
+  pub extents : (a b : Op) → Contains new a → Contains new b → a.extent ≡ b.extent
+  pub disjoint : (a b : Op) (x : ℕ) → Contains new a → Contains new b → covers x a ≡ true → covers x b ≡ true → a ≡ b
 
--- a load or LR: each operation has a place that no other has; an LR has one operation, aligned where a reservation is of a block
+-- a load or LR: each operation has a place that no other has; an LR has one operation, aligned where a reservation is
+-- of a block
 pub record AddsLoads (t t' : Trace) (r : Retired) (new : List Op) : Type 0 where
   pub loads : kind_of r ≡ Some kind.Load
   pub early : SameMembers t.early t'.early
-  pub placed : (v : Op) → In v new → IsPlaced v
-  pub places : (a b : Op) (p : Place) → In a new → In b (everything t') → a.place ≡ Some p → b.place ≡ Some p → a ≡ b
+  pub placed : (v : Op) → Contains new v → IsPlaced v
+  pub places : (a b : Op) (p : Place) → Contains new a → Contains (everything t') b → a.place ≡ Some p
+      → b.place ≡ Some p → a ≡ b
   pub reserves : is_lr r.insn ≡ true → (o : Op) × (new ≡ o ∷ []) × (0 < t.granule → IsAligned o.extent)
 
 -- a plain store: one operation with all bytes of its extent, not performed
@@ -92,13 +96,14 @@ pub record AddsStore (t t' : Trace) (r : Retired) (new : List Op) (o : Op) : Typ
   pub all : (x : ℕ) → InExtent o x → covers x o ≡ true
   pub plain : IsPlainAnnotated o
 
--- an AMO or a successful SC: one operation, that of the early store e, which is early no more; an SC has a pair whose bytes contain its own
+-- an AMO or a successful SC: one operation, that of the early store e, which is early no more; an SC has a pair whose
+-- bytes contain its own
 pub record AddsAtomic (t t' : Trace) (r : Retired) (new : List Op) (e o : Op) : Type 0 where
   pub atomic : is_amo_or_sc r.insn ≡ true
-  pub was : In e t.early
-  pub early_on : (v : Op) → In v t.early → (v ≡ e) ⊎ In v t'.early
-  pub early_back : (v : Op) → In v t'.early → In v t.early
-  pub gone : In e t'.early → ⊥
+  pub was : Contains t.early e
+  pub early_on : (v : Op) → Contains t.early v → (v ≡ e) ⊎ Contains t'.early v
+  pub early_back : (v : Op) → Contains t'.early v → Contains t.early v
+  pub gone : Contains t'.early e → ⊥
   pub one : new ≡ o ∷ []
   pub same : SameInsn o e
   pub place : o.place ≡ e.place
@@ -123,11 +128,11 @@ pub data Adds (t t' : Trace) (r : Retired) (new : List Op) : Type 0 where
 pub record AddInsn (t t' : Trace) (r : Retired) (new : List Op) : Type 0 where
   pub keeps : Keeps t t' (Some r)
   -- it is younger than all of its hart that retired, and older than the early stores that are left
-  pub younger : (w : Retired) → In w t.insns → w.hart ≡ r.hart → w.tag < r.tag
-  pub older : (v : Op) → In v t'.early → v.name.hart ≡ r.hart → r.tag < v.name.tag
-  pub ops_on : (v : Op) → In v t.ops → In v t'.ops
-  pub ops_back : (v : Op) → In v t'.ops → In v new ⊎ In v t.ops
-  pub added : (v : Op) → In v new → In v t'.ops
+  pub younger : (w : Retired) → Contains t.insns w → w.hart ≡ r.hart → w.tag < r.tag
+  pub older : (v : Op) → Contains t'.early v → v.name.hart ≡ r.hart → r.tag < v.name.tag
+  pub ops_on : (v : Op) → Contains t.ops v → Contains t'.ops v
+  pub ops_back : (v : Op) → Contains t'.ops v → Contains new v ⊎ Contains t.ops v
+  pub added : (v : Op) → Contains new v → Contains t'.ops v
   pub are_of : AreOf r new
   pub adds : Adds t t' r new
 
@@ -148,25 +153,26 @@ pub record IsPartOf (n o : Op) : Type 0 where
 pub record PerformsPart (t t' : Trace) (o n : Op) (rest : Option Op) : Type 0 where
   pub keeps : Keeps t t' None
   pub early : SameMembers t.early t'.early
-  pub was : In o t.ops
+  pub was : Contains t.ops o
   pub unperformed : o.place ≡ None
-  pub ops_on : (v : Op) → In v t.ops → (v ≡ o) ⊎ In v t'.ops
-  pub ops_back : (v : Op) → In v t'.ops → (v ≡ n) ⊎ (rest ≡ Some v) ⊎ In v t.ops
-  pub gone : In o t'.ops → ⊥
+  pub ops_on : (v : Op) → Contains t.ops v → (v ≡ o) ⊎ Contains t'.ops v
+  pub ops_back : (v : Op) → Contains t'.ops v → (v ≡ n) ⊎ (rest ≡ Some v) ⊎ Contains t.ops v
+  pub gone : Contains t'.ops o → ⊥
   -- n stands at a place above all that there are
-  pub added : In n t'.ops
+  pub added : Contains t'.ops n
   pub placed : IsPlaced n
   pub above : IsAbove t n
   pub part : IsPartOf n o
   -- what is left is not performed
-  pub left : (m : Op) → rest ≡ Some m → In m t'.ops × (m.place ≡ None) × IsPartOf m o
+  pub left : (m : Op) → rest ≡ Some m → Contains t'.ops m × (m.place ≡ None) × IsPartOf m o
   pub all : (x : ℕ) → covers x o ≡ true → (covers x n ≡ true) ⊎ ((m : Op) × (rest ≡ Some m) × (covers x m ≡ true))
   pub disjoint : (m : Op) (x : ℕ) → rest ≡ Some m → covers x n ≡ true → covers x m ≡ true → ⊥
 
 -- one message of hart h performs these operations, one after the other; the last stands first in the list
 pub data Performs (h : ℕ) (t : Trace) : List Op → Trace → Type 0 where
   no_parts : Performs h t [] t
-  more_parts : (parts : List Op) (u v : Trace) (o n : Op) (rest : Option Op) → Performs h t parts u → n.name.hart ≡ h → PerformsPart u v o n rest → Performs h t (n ∷ parts) v
+  more_parts : (parts : List Op) (u v : Trace) (o n : Op) (rest : Option Op) → Performs h t parts u → n.name.hart ≡ h
+      → PerformsPart u v o n rest → Performs h t (n ∷ parts) v
 
 -- ---- growth
 

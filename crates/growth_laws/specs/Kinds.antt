@@ -1,6 +1,7 @@
 -- Which operations an instruction has, and when a trace is well kinded.
 use Rattle.std.specs.Prelude.{ℕ, ◌+◌, ◌<◌, ◌≤◌, ◌≡◌, Bool, true, false, None, Some, if◌then◌else◌}
 use Rattle.std.specs.declared.option.Option.{Option}
+use Rattle.std.specs.List.{Contains}
 use Rattle.rv_decode.specs.declared.instruction.Insn.{Insn}
 use Rattle.rv_decode.specs.declared.instruction.Insn.TheVariants.{Load, Store, Lr, Sc, Amo}
 use Rattle.rvwmo_model.specs.declared.instructions.Retired.{Retired}
@@ -9,12 +10,12 @@ use Rattle.rvwmo_model.specs.declared.operations.OpKind.{OpKind}
 use Rattle.rvwmo_model.specs.declared.operations.OpKind.TheVariants as kind
 use Rattle.rvwmo_model.specs.declared.operations.Ann.TheVariants as ann
 use Rattle.rvwmo_model.specs.declared.traces.Trace.{Trace}
-use Rattle.rvwmo_model.specs.Members.{In}
 use Rattle.rvwmo_model.specs.Order.{covers}
 use Rattle.rvwmo_model.specs.ProgramOrder.{insn_of, is_one}
-use Rattle.rvwmo_model.specs.Rules.{is_rcsc}
-use Rattle.rvwmo_model.specs.Atomicity.{has_stored, IsPair, IsWithin}
+use Rattle.rvwmo_model.specs.Atomicity.{IsPair, IsWithin}
 use Rattle.rvwmo_model.specs.InForm.{InForm}
+use Rattle.rvwmo_model.specs.Annotations.{is_rcsc}
+use Rattle.rvwmo_model.specs.InsnKinds.{has_stored}
 
 -- a plain store: neither an SC nor an AMO
 abbrev pub is_store : Insn → Bool
@@ -58,21 +59,24 @@ IsPlainAnnotated o = (o.acquire ≡ ann.None) × (is_rcsc o.release ≡ false)
 pub record WellKinded (t : Trace) : Type 0 where
   pub form : InForm t
   -- the kind of an operation fits its instruction; an AMO has one operation
-  pub kinds : (o : Op) (w : Retired) → In o t.ops → insn_of t o ≡ Some w → kind_of w ≡ Some o.kind
-  pub amo : (a b : Op) → In a t.ops → In b t.ops → SameInsn a b → a.kind ≡ kind.Both → a ≡ b
+  pub kinds : (o : Op) (w : Retired) → Contains t.ops o → insn_of t o ≡ Some w → kind_of w ≡ Some o.kind
+  pub amo : (a b : Op) → Contains t.ops a → Contains t.ops b → SameInsn a b → a.kind ≡ kind.Both → a ≡ b
   -- early stores are stores
-  pub early_stores : (o : Op) → In o t.early → o.kind ≡ kind.Store
+  pub early_stores : (o : Op) → Contains t.early o → o.kind ≡ kind.Store
   -- only a plain store has an operation that is not performed
-  pub unperformed : (o : Op) → In o t.ops → o.place ≡ None → IsPlainStore t o
+  pub unperformed : (o : Op) → Contains t.ops o → o.place ≡ None → IsPlainStore t o
   -- the operations of one instruction have one extent and no common byte, and each is named by its lowest byte
-  pub extents : (a b : Op) → In a t.ops → In b t.ops → SameInsn a b → a.extent ≡ b.extent
-  pub disjoint : (a b : Op) (x : ℕ) → In a t.ops → In b t.ops → SameInsn a b → covers x a ≡ true → covers x b ≡ true → a ≡ b
-  pub parts : (o : Op) → In o t.ops → IsNamed o
+  pub extents : (a b : Op) → Contains t.ops a → Contains t.ops b → SameInsn a b → a.extent ≡ b.extent
+  pub disjoint : (a b : Op) (x : ℕ) → Contains t.ops a → Contains t.ops b → SameInsn a b → covers x a ≡ true
+      → covers x b ≡ true → a ≡ b
+  pub parts : (o : Op) → Contains t.ops o → IsNamed o
   -- those of a plain store cover its extent
-  pub cover : (o : Op) (x : ℕ) → In o t.ops → IsPlainStore t o → InExtent o x → (v : Op) × In v t.ops × SameInsn v o × (covers x v ≡ true)
-  pub plain : (o : Op) → In o t.ops → IsPlainStore t o → IsPlainAnnotated o
+  pub cover : (o : Op) (x : ℕ) → Contains t.ops o → IsPlainStore t o → InExtent o x → (v : Op) × Contains t.ops v
+      × SameInsn v o × (covers x v ≡ true)
+  pub plain : (o : Op) → Contains t.ops o → IsPlainStore t o → IsPlainAnnotated o
   -- early stores of one hart have different tags, above those of all its instructions that retired
-  pub early_apart : (a b : Op) → In a t.early → In b t.early → SameInsn a b → a ≡ b
-  pub early_younger : (o : Op) (w : Retired) → In o t.early → In w t.insns → w.hart ≡ o.name.hart → w.tag < o.name.tag
+  pub early_apart : (a b : Op) → Contains t.early a → Contains t.early b → SameInsn a b → a ≡ b
+  pub early_younger : (o : Op) (w : Retired) → Contains t.early o → Contains t.insns w → w.hart ≡ o.name.hart
+      → w.tag < o.name.tag
   -- each successful SC has a pair whose bytes contain its own
-  pub paired : (w : Op) → In w t.ops → has_stored (insn_of t w) ≡ true → (r : Op) × IsPair t r w × IsWithin w r
+  pub paired : (w : Op) → Contains t.ops w → has_stored (insn_of t w) ≡ true → (r : Op) × IsPair t r w × IsWithin w r

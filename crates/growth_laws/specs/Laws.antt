@@ -1,13 +1,13 @@
 -- The laws of growth over one trace.
 use Rattle.std.specs.Prelude.{ℕ, ◌<◌, ◌≡◌, ◌⊎◌, ◌↔◌, List, [], true, false, None, Some}
 use Rattle.std.specs.declared.option.Option.{Option}
+use Rattle.std.specs.List.{Contains}
 use Rattle.tandem_base.specs.declared.names.Place.{Place}
 use Rattle.rvwmo_model.specs.declared.instructions.Retired.{Retired}
 use Rattle.rvwmo_model.specs.declared.operations.Op.{Op}
 use Rattle.rvwmo_model.specs.declared.traces.Trace.{Trace}
-use Rattle.rvwmo_model.specs.Members.{In}
 use Rattle.rvwmo_model.specs.Order.{precedes, reads, writes}
-use Rattle.rvwmo_model.specs.Sources.{source, given, origin}
+use Rattle.rvwmo_model.specs.Sources.{source, byte_from, origin}
 use Rattle.rvwmo_model.specs.declared.preserved.Rule.{Rule}
 use Rattle.rvwmo_model.specs.declared.preserved.Rule.TheVariants.{R1, R4, R6, R9, R10}
 use Rattle.rvwmo_model.specs.Rules.{Holds, Broken}
@@ -53,7 +53,7 @@ HasOverlap t = HasBrokenBy R1 t
 
 -- stable sources: after any growths the source of a loaded byte is the same, or a pair of rule 1 is broken
 abbrev pub StableSources : Type 0
-StableSources = (t t' : Trace) (i : Op) (x : ℕ) → WellKinded t → Grows t t' → In i t.ops → reads x i ≡ true
+StableSources = (t t' : Trace) (i : Op) (x : ℕ) → WellKinded t → Grows t t' → Contains t.ops i → reads x i ≡ true
     → (origin t' i x ≡ origin t i x) ⊎ HasOverlap t'
 
 -- a source is settled: it is the initial value, or a store that is performed
@@ -69,11 +69,12 @@ place_of (Some s) = s.place
 pub record SourceStays (t t' : Trace) (i : Op) (x : ℕ) : Type 0 where
   pub store : origin t' i x ≡ origin t i x
   pub place : place_of (source t' i x) ≡ place_of (source t i x)
-  pub byte : (initial : ℕ → ℕ) → given initial (source t' i x) x ≡ given initial (source t i x) x
+  pub byte : (initial : ℕ → ℕ) → byte_from initial (source t' i x) x ≡ byte_from initial (source t i x) x
 
 -- settled sources: under all growths a settled source stays, whatever is broken
 abbrev pub SettledSources : Type 0
-SettledSources = (t t' : Trace) (i : Op) (x : ℕ) → WellKinded t → Grows t t' → In i t.ops → reads x i ≡ true → IsSettled (source t i x) → SourceStays t t' i x
+SettledSources = (t t' : Trace) (i : Op) (x : ℕ) → WellKinded t → Grows t t' → Contains t.ops i → reads x i ≡ true
+    → IsSettled (source t i x) → SourceStays t t' i x
 
 -- what is wrong in t is wrong in t', or a pair of rule 1 is broken there
 pub record StaysWrong (initial : ℕ → ℕ) (t t' : Trace) : Type 0 where
@@ -89,7 +90,8 @@ NoMending = (initial : ℕ → ℕ) (t t' : Trace) → WellKinded t → Grows t 
 
 -- nothing, and an early store more, break nothing
 abbrev pub EarlyBreaksNothing : Type 0
-EarlyBreaksNothing = (initial : ℕ → ℕ) (t t' : Trace) → WellKinded t → Legal initial t → Same t t' ⊎ ((e : Op) × AddEarly t t' e) → Legal initial t'
+EarlyBreaksNothing = (initial : ℕ → ℕ) (t t' : Trace) → WellKinded t → Legal initial t → Same t t'
+    ⊎ ((e : Op) × AddEarly t t' e) → Legal initial t'
 
 -- all that is wrong is of the instruction r
 pub record WrongOnlyBy (initial : ℕ → ℕ) (t : Trace) (r : Retired) : Type 0 where
@@ -99,7 +101,8 @@ pub record WrongOnlyBy (initial : ℕ → ℕ) (t : Trace) (r : Retired) : Type 
 
 -- one instruction more breaks only pairs with its own operation second, and the values and atomicity of it alone
 abbrev pub InsnBreaksItsOwn : Type 0
-InsnBreaksItsOwn = (initial : ℕ → ℕ) (t t' : Trace) (r : Retired) (new : List Op) → WellKinded t → Legal initial t → AddInsn t t' r new → WrongOnlyBy initial t' r
+InsnBreaksItsOwn = (initial : ℕ → ℕ) (t t' : Trace) (r : Retired) (new : List Op) → WellKinded t → Legal initial t
+    → AddInsn t t' r new → WrongOnlyBy initial t' r
 
 -- no pair of a lesser rule is broken
 abbrev pub IsLeastRule : Trace → Rule → Type 0
@@ -107,18 +110,20 @@ IsLeastRule t k = (j : Rule) → number j < number k → (a b : Op) → Broken j
 
 -- b is performed by the message; a is of a plain store, and not performed, or performed by the message after b
 pub record BrokenByStores (t : Trace) (parts : List Op) (a b : Op) : Type 0 where
-  pub second : In b parts
+  pub second : Contains parts b
   pub plain : IsPlainStore t a
-  pub first : (a.place ≡ None) ⊎ (In a parts × (precedes b a ≡ true))
+  pub first : (a.place ≡ None) ⊎ (Contains parts a × (precedes b a ≡ true))
 
--- what a message that performs stores breaks: where no pair is broken, nothing; else the least rule is of same address, fence or release
+-- what a message that performs stores breaks: where no pair is broken, nothing; else the least rule is of same
+-- address, fence or release
 pub record WrongByStores (initial : ℕ → ℕ) (t : Trace) (parts : List Op) : Type 0 where
   pub only_pairs : (HasBroken t → ⊥) → Legal initial t
   pub rule : (k : Rule) (a b : Op) → IsLeastRule t k → Broken k t a b → (k ≡ R1) ⊎ (k ≡ R4) ⊎ (k ≡ R6)
   pub pair : (k : Rule) (a b : Op) → IsLeastRule t k → Broken k t a b → BrokenByStores t parts a b
 
 abbrev pub StoresBreakPairs : Type 0
-StoresBreakPairs = (initial : ℕ → ℕ) (t t' : Trace) (h : ℕ) (parts : List Op) → WellKinded t → Legal initial t → Performs h t parts t' → WrongByStores initial t' parts
+StoresBreakPairs = (initial : ℕ → ℕ) (t t' : Trace) (h : ℕ) (parts : List Op) → WellKinded t → Legal initial t
+    → Performs h t parts t' → WrongByStores initial t' parts
 
 -- place of the fault: what one growth of a legal trace can break
 pub record PlaceOfFault : Type 0 where
@@ -128,21 +133,21 @@ pub record PlaceOfFault : Type 0 where
 
 -- a precedes b in preserved program order by rule k
 pub record IsPreserved (k : Rule) (t : Trace) (a b : Op) : Type 0 where
-  pub first_in : In a t.ops
-  pub second_in : In b t.ops
+  pub first_in : Contains t.ops a
+  pub second_in : Contains t.ops b
   pub one_hart : b.name.hart ≡ a.name.hart
   pub in_order : a.name.tag < b.name.tag
   pub rule : Holds k t a b
 
 -- b is an operation of t' of the hart of a, of an instruction that retires after t
 pub record IsLater (t t' : Trace) (a b : Op) : Type 0 where
-  pub in_ops : In b t'.ops
+  pub in_ops : Contains t'.ops b
   pub one_hart : b.name.hart ≡ a.name.hart
   pub younger : IsYounger t b
 
 -- a is performed, and its place isn't after that of any operation that comes later
 pub record IsBelow (t t' : Trace) (a : Op) : Type 0 where
-  pub in_ops : In a t.ops
+  pub in_ops : Contains t.ops a
   pub placed : IsPlaced a
   pub below : (b : Op) → IsLater t t' a b → IsPlaced b → precedes b a ≡ false
 
@@ -151,15 +156,18 @@ pub record PrecedesLater (t t' : Trace) (a b : Op) : Type 0 where
   pub before : precedes a b ≡ true
   pub unbroken : (k : Rule) → Broken k t' a b → ⊥
   -- what rules 1, 9 and 10 put before a precedes a, and so b
-  pub forced : (k : Rule) (c : Op) → (k ≡ R1) ⊎ (k ≡ R9) ⊎ (k ≡ R10) → IsPreserved k t' c a → (precedes c a ≡ true) × (precedes c b ≡ true)
+  pub forced : (k : Rule) (c : Op) → (k ≡ R1) ⊎ (k ≡ R9) ⊎ (k ≡ R10) → IsPreserved k t' c a → (precedes c a ≡ true)
+      × (precedes c b ≡ true)
   -- so where a stores to a byte, older loads of it precede b
-  pub loads : (c : Op) (x : ℕ) → In c t'.ops → a.name.hart ≡ c.name.hart → c.name.tag < a.name.tag → reads x c ≡ true → writes x a ≡ true → precedes c b ≡ true
+  pub loads : (c : Op) (x : ℕ) → Contains t'.ops c → a.name.hart ≡ c.name.hart → c.name.tag < a.name.tag
+      → reads x c ≡ true → writes x a ≡ true → precedes c b ≡ true
   -- and where a depends on c by address or data, no rule is broken by c and b, not rule 12 either
   pub dependent : (k j : Rule) (c : Op) → (k ≡ R9) ⊎ (k ≡ R10) → IsPreserved k t' c a → Broken j t' c b → ⊥
 
 -- windows: a performed operation below all places that are still to come precedes all that comes
 abbrev pub Windows : Type 0
-Windows = (initial : ℕ → ℕ) (t t' : Trace) (a b : Op) → WellKinded t → Legal initial t → Grows t t' → IsBelow t t' a → IsLater t t' a b → PrecedesLater t t' a b
+Windows = (initial : ℕ → ℕ) (t t' : Trace) (a b : Op) → WellKinded t → Legal initial t → Grows t t' → IsBelow t t' a
+    → IsLater t t' a b → PrecedesLater t t' a b
 
 -- a broken pair of hart h
 abbrev pub BrokenOn : ℕ → Rule → Trace → Op → Op → Type 0
@@ -173,5 +181,6 @@ pub record IsReportedOn (h : ℕ) (t : Trace) (k : Rule) (a b : Op) : Type 0 whe
 
 -- after one growth of a legal trace the pair that is reported is chosen among those of the growing hart
 abbrev pub ReportOfHart : Type 0
-ReportOfHart = (initial : ℕ → ℕ) (t t' : Trace) (h : ℕ) (g : Growth t t') → WellKinded t → Legal initial t → IsGrowing g h
+ReportOfHart = (initial : ℕ → ℕ) (t t' : Trace) (h : ℕ) (g : Growth t t') → WellKinded t → Legal initial t
+    → IsGrowing g h
     → (k : Rule) (a b : Op) → IsReported t' k a b ↔ IsReportedOn h t' k a b

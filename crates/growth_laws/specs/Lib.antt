@@ -1,6 +1,4 @@
 pub mod Corollaries
-pub mod Example
-pub mod FormTest
 pub mod Growth
 pub mod Kinds
 pub mod Laws

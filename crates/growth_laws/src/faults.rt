@@ -1,5 +1,6 @@
 //! Laws on what a growth can break, and what it can't: functions that do nothing, whose clauses are
 //! the laws.
+
 ghost use Rattle.growth_laws.specs.Corollaries.{SourcesRest, QuietInsns, SecondOfHart};
 ghost use Rattle.growth_laws.specs.Laws.{PlaceOfFault, ReportOfHart, Windows};
 

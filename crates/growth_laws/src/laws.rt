@@ -1,6 +1,7 @@
 //! Laws of growth: functions that do nothing, whose clauses are the laws.
-ghost use Rattle.growth_laws.specs.Example.{EachGrowthOccurs};
-ghost use Rattle.growth_laws.specs.Laws.{StartsWell, KeepsWellKinded, KeepsWriters, StableSources, SettledSources, NoMending};
+
+ghost use Rattle.growth_laws.specs.Laws.{StartsWell, KeepsWellKinded, KeepsWriters, StableSources};
+ghost use Rattle.growth_laws.specs.Laws.{SettledSources, NoMending};
 
 /// The trace with no instruction is well kinded and legal.
 #[tactic(auto, using(crate::proofs::Starts::starts_well))]
@@ -38,12 +39,4 @@ pub fn settled_sources_stay()
 #[tactic(auto, using(crate::proofs::Chains::no_mending))]
 pub fn nothing_is_mended()
     ensures { NoMending }
-{}
-
-/// Each growth occurs: a trace with two stores, a load that reads the younger, and an AMO of another
-/// hart grows step by step from the trace of nothing; then one message performs the younger store in
-/// two parts, by which the load has another source and a pair of rule 1 is broken.
-#[tactic(auto, using(crate::proofs::Example::each_growth_occurs))]
-pub fn each_growth_occurs()
-    ensures { EachGrowthOccurs }
 {}

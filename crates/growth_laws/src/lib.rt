@@ -4,7 +4,14 @@
 //! Sections named in the definitions are those of the Unprivileged ISA, document 20191213.
 #![tactic(auto)]
 
-pub mod faults;
-pub mod laws;
-#[cfg(test)]
-mod tests;
+mod faults;
+mod laws;
+
+pub use faults::{
+    fault_has_its_place, report_is_of_growing_hart, second_is_of_growing_hart,
+    sources_rest_where_nothing_is_performed, stores_retire_quietly, windows_precede_what_comes,
+};
+pub use laws::{
+    growth_keeps_well_kinded, nothing_is_mended, nothing_starts_well, settled_sources_stay,
+    sources_are_stable, stores_go_on,
+};

@@ -1,67 +1,88 @@
 -- The search for an SC without a pair.
-use Rattle.std.proofs.Common.{ℕ, ◌≡◌, inl, inr, true, not, eqb, ◌&&◌, Option, Some, None, refl, ap, subst}
+use Rattle.std.proofs.Common.{ℕ, ◌≡◌, inl, inr, true, not, eqb, ltb, ◌&&◌, Option, Some, None, refl, ap, subst}
 use Rattle.std.specs.Bool.{Decides}
-use Rattle.std.proofs.lemmas.Bool.{cases_Bool, both_ways, eqb-true, eq-eqb, and_parts, and_from}
+use Rattle.std.proofs.lemmas.Bool.{cases_Bool, both_ways, eqb-true, eq-eqb, ltb-true, lt-ltb, and_parts, and_from}
+use Rattle.std.specs.List.{Contains, list_any}
 use Rattle.rvwmo_model.specs.declared.answers.Judged.{Judged}
 use Rattle.rvwmo_model.specs.declared.answers.Judged.TheVariants as judged
 use Rattle.rvwmo_model.specs.declared.operations.Op.{Op}
 use Rattle.rvwmo_model.specs.declared.traces.Trace.{Trace}
-use Rattle.rvwmo_model.specs.Members.{In}
 use Rattle.rvwmo_model.specs.Order.{covers}
 use Rattle.rvwmo_model.specs.ProgramOrder.{insn_of}
-use Rattle.rvwmo_model.specs.Atomicity.{has_stored, IsPair, IsWithin, Unpaired}
-use Rattle.rvwmo_model.specs.InForm.{AreRising}
-use Rattle.rvwmo_model.specs.Report.{AllPaired, Answers}
-use Rattle.rvwmo_model.specs.Search.{some_of, some_byte}
+use Rattle.rvwmo_model.specs.Atomicity.{IsPair, IsWithin, Unpaired}
+use Rattle.rvwmo_model.specs.InForm.{InForm}
+use Rattle.rvwmo_model.specs.Report.{AllPaired, IsAnswer}
+use Rattle.rvwmo_model.specs.Search.{some_byte}
 use Rattle.rvwmo_model.specs.Tests.{is_pair_of, is_pair, is_within, is_unpaired}
 use Rattle.rvwmo_model.specs.Answer.{least_of, pair_of, pair_answer}
 use Rattle.rvwmo_model.proofs.Searches.{some_byte_is, not_true}
 use Rattle.rvwmo_model.proofs.Tested.{not_false, both_is, paired_is}
 use Rattle.rvwmo_model.proofs.Choices.{Computes, some_member, least_member, no_member}
+use Rattle.rvwmo_model.specs.InsnKinds.{has_stored}
 
 within_is : (w r : Op) → Decides (is_within w r) (IsWithin w r)
 within_is w r = (
-  (λ e x c. elim (cases_Bool (covers x r)) [ inl q ↦ q | inr q ↦ absurd (both_ways _ (not_false _ e) ((bytes).1 (x, and_from _ _ c (ap not q)))) ]),
+  (λ e x c.
+      elim (cases_Bool (covers x r)) [
+        | inl q ↦ q
+        | inr q ↦ absurd
+            (both_ways _ (not_false _ e) ((bytes).1 (x, and_from _ _ c (ap not q))))
+      ]),
   λ h. ap not (not_true _ (λ e.
       let x = bytes.0 e in
       let p = and_parts (covers x.0 w) (not (covers x.0 r)) x.1 in
       both_ways _ (not_false _ p.1) (h x.0 p.0))),
 )
   where
-    bytes : Decides (some_byte (λ x. covers x w && not (covers x r)) w) ((x : ℕ) × ((covers x w && not (covers x r)) ≡ true))
-    bytes = some_byte_is (λ x. covers x w && not (covers x r)) w (λ x q. (and_parts (covers x w) (not (covers x r)) q).0)
+    bytes : Decides (some_byte (λ x. covers x w && not (covers x r)) w)
+        ((x : ℕ) × ((covers x w && not (covers x r)) ≡ true))
+    bytes = some_byte_is (λ x. covers x w && not (covers x r)) w
+        (λ x q. (and_parts (covers x w) (not (covers x r)) q).0)
 
-module _ (t : Trace) (rising : AreRising t.insns) where
-  pub pair_is : (r w : Op) → In r t.ops → In w t.ops → Decides (is_pair t r w) (IsPair t r w)
+module _ (t : Trace) (form : InForm t) where
+  pub pair_is : (r w : Op) → Contains t.ops r → Contains t.ops w → Decides (is_pair t r w) (IsPair t r w)
   pair_is r w hr hw = (
     (λ e.
-        let p = and_parts (eqb w.name.hart r.name.hart && is_pair_of t r w) (has_stored (insn_of t w)) e in
-        let q = and_parts (eqb w.name.hart r.name.hart) (is_pair_of t r w) p.0 in
-        record { lr_in = hr; sc_in = hw; one_hart = eqb-true _ _ q.0; paired = (paired_is t r w rising).0 q.1; stored = p.1 }),
-    λ h. and_from _ _ (and_from _ _ (eq-eqb _ _ h.one_hart) ((paired_is t r w rising).1 h.paired)) h.stored,
+        let p = and_parts ((eqb w.name.hart r.name.hart && ltb r.name.tag w.name.tag) && is_pair_of t r w)
+        (has_stored (insn_of t w)) e in
+        let q = and_parts (eqb w.name.hart r.name.hart && ltb r.name.tag w.name.tag) (is_pair_of t r w) p.0 in
+        let s = and_parts (eqb w.name.hart r.name.hart) (ltb r.name.tag w.name.tag) q.0 in
+        record {
+          lr_in = hr;
+          sc_in = hw;
+          one_hart = eqb-true _ _ s.0;
+          in_order = ltb-true _ _ s.1;
+          paired = (paired_is t r w form.rising).0 q.1;
+          stored = p.1;
+        }),
+    λ h. and_from _ _
+        (and_from _ _ (and_from _ _ (eq-eqb _ _ h.one_hart) (lt-ltb _ _ h.in_order))
+        ((paired_is t r w form.rising).1 h.paired)) h.stored,
   )
 
-  unpaired_is : (w : Op) → In w t.ops → Decides (is_unpaired t w) (Unpaired t w)
+  unpaired_is : (w : Op) → Contains t.ops w → Decides (is_unpaired t w) (Unpaired t w)
   unpaired_is w hw = (
     (λ e.
-        let p = and_parts (has_stored (insn_of t w)) (not (some_of (λ r. is_pair t r w && is_within w r) t.ops)) e in
+        let p = and_parts (has_stored (insn_of t w)) (not (list_any (λ r. is_pair t r w && is_within w r) t.ops)) e in
         record { sc_in = hw; stored = p.0; alone = λ r h c. both_ways _ (not_false _ p.1) (found.1 (r, (h, c))) }),
     λ h. and_from _ _ h.stored (ap not (not_true _ (λ e. let f = found.0 e in h.alone f.0 f.1.0 f.1.1))),
   )
     where
-      found : Decides (some_of (λ r. is_pair t r w && is_within w r) t.ops) ((r : Op) × (IsPair t r w × IsWithin w r))
+      found : Decides (list_any (λ r. is_pair t r w && is_within w r) t.ops) ((r : Op) × (IsPair t r w × IsWithin w r))
       found = some_member (λ r. is_pair t r w && is_within w r) (λ r. IsPair t r w × IsWithin w r) t.ops
           (record { on = λ r hr. both_is _ _ _ _ (pair_is r w hr hw) (within_is w r); only = λ r h. h.0.lr_in })
 
   unpaired_computes : Computes (is_unpaired t) (Unpaired t) t.ops
   unpaired_computes = record { on = unpaired_is; only = λ w h. h.sc_in }
 
-  pub pair_found : (initial : ℕ → ℕ) (j : Judged) → pair_answer t ≡ Some j → Answers initial t j
+  pub pair_found : (initial : ℕ → ℕ) (j : Judged) → pair_answer t ≡ Some j → IsAnswer initial t j
   pair_found initial j e = at (least_of (is_unpaired t) t.ops) refl e
     where
-      at : (o : Option Op) → least_of (is_unpaired t) t.ops ≡ o → pair_of o ≡ Some j → Answers initial t j
+      at : (o : Option Op) → least_of (is_unpaired t) t.ops ≡ o → pair_of o ≡ Some j → IsAnswer initial t j
       at None f g = absurd (cc)
-      at (Some w) f g = let same : judged.Pair w.name ≡ j = cc in subst (Answers initial t) same (w, refl, least_member (is_unpaired t) (Unpaired t) t.ops w unpaired_computes f)
+      at (Some w) f g = let same : judged.Pair w.name ≡ j =
+          cc in subst (IsAnswer initial t) same
+          (w, refl, least_member (is_unpaired t) (Unpaired t) t.ops w unpaired_computes f)
 
   pub pair_none : pair_answer t ≡ None → AllPaired t
   pair_none e = at (least_of (is_unpaired t) t.ops) refl e

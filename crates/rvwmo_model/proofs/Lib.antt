@@ -1,7 +1,6 @@
 pub mod Answered
 pub mod Asked
 pub mod Choices
-pub mod Forms
 pub mod FoundAtomicity
 pub mod FoundOrder
 pub mod FoundPairs

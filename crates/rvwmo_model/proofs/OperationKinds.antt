@@ -1,5 +1,6 @@
 -- FENCEs by the kinds of operations, and AMOs as loads and stores.
-use Rattle.std.proofs.Common.{ℕ, ◌≡◌, ◌⊎◌, inl, inr, Bool, true, false, ◌↔◌, ◌&&◌, ◌||◌, cond, Option, Some, None, refl, sym, ap, subst, ◌∙◌}
+use Rattle.std.proofs.Common.{ℕ, ◌≡◌, ◌⊎◌, inl, inr, Bool, true, false, ◌↔◌, ◌&&◌, ◌||◌, cond, Option, Some, None}
+use Rattle.std.proofs.Common.{refl, sym, ap, subst, ◌∙◌}
 use Rattle.std.proofs.lemmas.Bool.{false≢true, and_parts, and_from, or_cases, or_left, or_right, eqb-true}
 use Rattle.rv_decode.specs.declared.instruction.Insn.{Insn}
 use Rattle.rv_decode.specs.declared.instruction.Insn.TheVariants.{Fence}
@@ -10,12 +11,14 @@ use Rattle.rvwmo_model.specs.declared.operations.OpKind.TheVariants.{Load, Store
 use Rattle.rvwmo_model.specs.declared.traces.Trace.{Trace}
 use Rattle.rvwmo_model.specs.Order.{kind_loads, kind_stores}
 use Rattle.rvwmo_model.specs.ProgramOrder.{is_one, insn_at}
-use Rattle.rvwmo_model.specs.Rules.{Rule, R1, R2, R3, R4, R5, R6, R7, R8, R9, R10, R11, R12, R13, Holds, names, is_tso, fence_orders}
+use Rattle.rvwmo_model.specs.Rules.{Rule, R1, R2, R3, R4, R5, R6, R7, R8, R9, R10, R11, R12, R13, Holds}
 use Rattle.rvwmo_model.specs.Laws.{FenceTso, FenceBySets, as_kind, AmoIsLoadAndStore}
+use Rattle.rvwmo_model.specs.InsnKinds.{in_set, is_tso, fence_orders}
 
 pub fence_tso : FenceTso
 fence_tso rd rs1 Load b = ((λ e. inl refl), λ h. refl)
-fence_tso rd rs1 Store Load = ((λ e. absurd (false≢true e)), λ h. elim h [ inl p ↦ absurd (false≢true p) | inr p ↦ absurd (false≢true p.1) ])
+fence_tso rd rs1 Store Load =
+    ((λ e. absurd (false≢true e)), λ h. elim h [ inl p ↦ absurd (false≢true p) | inr p ↦ absurd (false≢true p.1) ])
 fence_tso rd rs1 Store Store = ((λ e. inr (refl, refl)), λ h. refl)
 fence_tso rd rs1 Store Both = ((λ e. inr (refl, refl)), λ h. refl)
 fence_tso rd rs1 Both b = ((λ e. inl refl), λ h. refl)
@@ -23,8 +26,12 @@ fence_tso rd rs1 Both b = ((λ e. inl refl), λ h. refl)
 pub fence_by_sets : FenceBySets
 fence_by_sets fm before after rd rs1 a b other = at (is_tso fm before after) refl
   where
-    at : (c : Bool) → is_tso fm before after ≡ c → (cond c (kind_loads a || (kind_stores a && kind_stores b)) (names before a && names after b) ≡ true → (names before a ≡ true) × (names after b ≡ true)) × ((names before a ≡ true) × (names after b ≡ true) → cond c (kind_loads a || (kind_stores a && kind_stores b)) (names before a && names after b) ≡ true)
-    at false e = ((λ h. and_parts (names before a) (names after b) h), λ h. and_from _ _ h.0 h.1)
+    at : (c : Bool) → is_tso fm before after ≡ c
+        → (cond c (kind_loads a || (kind_stores a && kind_stores b)) (in_set before a && in_set after b) ≡ true
+        → (in_set before a ≡ true) × (in_set after b ≡ true))
+        × ((in_set before a ≡ true) × (in_set after b ≡ true)
+        → cond c (kind_loads a || (kind_stores a && kind_stores b)) (in_set before a && in_set after b) ≡ true)
+    at false e = ((λ h. and_parts (in_set before a) (in_set after b) h), λ h. and_from _ _ h.0 h.1)
     at true e =
         let p = and_parts _ _ e in
         let q = and_parts _ _ p.0 in
@@ -38,7 +45,7 @@ either true false = refl
 either false true = refl
 either false false = refl
 
-names_both : (set : ℕ) → names set Both ≡ (names set Load || names set Store)
+names_both : (set : ℕ) → in_set set Both ≡ (in_set set Load || in_set set Store)
 names_both set = either _ _
 
 left_or : (a b c : Bool) → ((a || b) && c) ≡ ((a && c) || (b && c))
@@ -60,22 +67,28 @@ cond_both false a b d x y z p q = q
 
 orders_first : (w : Insn) (k : OpKind) → fence_orders w Both k ≡ (fence_orders w Load k || fence_orders w Store k)
 orders_first (Fence fm before after rd rs1) k =
-    cond_both (is_tso fm before after) true true (kind_stores k) (names before Both && names after k) (names before Load && names after k) (names before Store && names after k) refl
-    (ap (λ (b : Bool). b && names after k) (names_both before) ∙ left_or (names before Load) (names before Store) (names after k))
+    cond_both (is_tso fm before after) true true (kind_stores k) (in_set before Both && in_set after k)
+    (in_set before Load && in_set after k) (in_set before Store && in_set after k) refl
+    (ap (λ (b : Bool). b && in_set after k) (names_both before) ∙ left_or (in_set before Load) (in_set before Store)
+    (in_set after k))
 orders_first _ k = refl
 
-kinds_or : (k : OpKind) → (kind_loads k || (kind_stores k && true)) ≡ ((kind_loads k || (kind_stores k && false)) || (kind_loads k || (kind_stores k && true)))
+kinds_or : (k : OpKind) → (kind_loads k || (kind_stores k && true)) ≡ ((kind_loads k || (kind_stores k && false))
+    || (kind_loads k || (kind_stores k && true)))
 kinds_or Load = refl
 kinds_or Store = refl
 kinds_or Both = refl
 
 orders_second : (w : Insn) (k : OpKind) → fence_orders w k Both ≡ (fence_orders w k Load || fence_orders w k Store)
 orders_second (Fence fm before after rd rs1) k =
-    cond_both (is_tso fm before after) _ _ _ (names before k && names after Both) (names before k && names after Load) (names before k && names after Store) (kinds_or k)
-    (ap (λ (b : Bool). names before k && b) (names_both after) ∙ right_or (names after Load) (names after Store) (names before k))
+    cond_both (is_tso fm before after) _ _ _ (in_set before k && in_set after Both)
+    (in_set before k && in_set after Load) (in_set before k && in_set after Store) (kinds_or k)
+    (ap (λ (b : Bool). in_set before k && b) (names_both after) ∙ right_or (in_set after Load) (in_set after Store)
+    (in_set before k))
 orders_second _ k = refl
 
-one_or : (p q r : Insn → Bool) (o : Option Retired) → ((w : Insn) → p w ≡ (q w || r w)) → is_one p o ≡ (is_one q o || is_one r o)
+one_or : (p q r : Insn → Bool) (o : Option Retired) → ((w : Insn) → p w ≡ (q w || r w))
+    → is_one p o ≡ (is_one q o || is_one r o)
 one_or p q r None e = refl
 one_or p q r (Some w) e = e w.insn
 
@@ -83,16 +96,27 @@ same : (A : Type 0) → (A → A ⊎ A) × (A ⊎ A → A)
 same A = ((λ a. inl a), λ s. elim s [ inl a ↦ a | inr a ↦ a ])
 
 -- as a first operation
-first_both : (k : Rule) (t : Trace) (a b : Op) → Holds k t (as_kind Both a) b ↔ (Holds k t (as_kind Load a) b ⊎ Holds k t (as_kind Store a) b)
+first_both : (k : Rule) (t : Trace) (a b : Op) → Holds k t (as_kind Both a) b
+    ↔ (Holds k t (as_kind Load a) b ⊎ Holds k t (as_kind Store a) b)
 first_both R1 t a b = same (Holds R1 t a b)
 first_both R2 t a b = ((λ h. inl h), λ s. elim s [ inl h ↦ h | inr h ↦ absurd (false≢true h.1) ])
 first_both R3 t a b = same (Holds R3 t a b)
 first_both R4 t a b = (
-  (λ h. elim (or_cases _ _ (sym (split h.0) ∙ h.3)) [ inl p ↦ inl (h.0, h.1, h.2, p) | inr p ↦ inr (h.0, h.1, h.2, p) ]),
-  λ s. elim s [ inl h ↦ (h.0, h.1, h.2, split h.0 ∙ or_left _ _ h.3) | inr h ↦ (h.0, h.1, h.2, split h.0 ∙ or_right _ _ h.3) ],
+  (λ h. elim (or_cases _ _ (sym (split h.0) ∙ h.3)) [
+    | inl p ↦ inl (h.0, h.1, h.2, p)
+    | inr p ↦ inr
+        (h.0, h.1, h.2, p)
+  ]),
+  λ s. elim s [
+    | inl h ↦ (h.0, h.1, h.2, split h.0 ∙ or_left _ _ h.3)
+    | inr
+        h ↦ (h.0, h.1, h.2, split h.0 ∙ or_right _ _ h.3)
+  ],
 )
   where
-    split : (n : ℕ) → is_one (λ w. fence_orders w Both b.kind) (insn_at t.insns a.name.hart n) ≡ (is_one (λ w. fence_orders w Load b.kind) (insn_at t.insns a.name.hart n) || is_one (λ w. fence_orders w Store b.kind) (insn_at t.insns a.name.hart n))
+    split : (n : ℕ) → is_one (λ w. fence_orders w Both b.kind)
+        (insn_at t.insns a.name.hart n) ≡ (is_one (λ w. fence_orders w Load b.kind) (insn_at t.insns a.name.hart n)
+        || is_one (λ w. fence_orders w Store b.kind) (insn_at t.insns a.name.hart n))
     split n = one_or _ _ _ (insn_at t.insns a.name.hart n) (λ w. orders_first w b.kind)
 first_both R5 t a b = same (Holds R5 t a b)
 first_both R6 t a b = same (Holds R6 t a b)
@@ -105,16 +129,27 @@ first_both R12 t a b = same (Holds R12 t a b)
 first_both R13 t a b = same (Holds R13 t a b)
 
 -- as a second operation
-second_both : (k : Rule) (t : Trace) (a b : Op) → Holds k t a (as_kind Both b) ↔ (Holds k t a (as_kind Load b) ⊎ Holds k t a (as_kind Store b))
+second_both : (k : Rule) (t : Trace) (a b : Op) → Holds k t a (as_kind Both b)
+    ↔ (Holds k t a (as_kind Load b) ⊎ Holds k t a (as_kind Store b))
 second_both R1 t a b = ((λ h. inr h), λ s. elim s [ inl h ↦ absurd (false≢true h.2) | inr h ↦ h ])
 second_both R2 t a b = ((λ h. inl h), λ s. elim s [ inl h ↦ h | inr h ↦ absurd (false≢true h.2) ])
-second_both R3 t a b = ((λ h. inl h), λ s. elim s [ inl h ↦ h | inr h ↦ absurd (false≢true h.1.1) ])
+second_both R3 t a b = ((λ h. inl h), λ s. elim s [ inl h ↦ h | inr h ↦ absurd (false≢true h.1.2) ])
 second_both R4 t a b = (
-  (λ h. elim (or_cases _ _ (sym (split h.0) ∙ h.3)) [ inl p ↦ inl (h.0, h.1, h.2, p) | inr p ↦ inr (h.0, h.1, h.2, p) ]),
-  λ s. elim s [ inl h ↦ (h.0, h.1, h.2, split h.0 ∙ or_left _ _ h.3) | inr h ↦ (h.0, h.1, h.2, split h.0 ∙ or_right _ _ h.3) ],
+  (λ h. elim (or_cases _ _ (sym (split h.0) ∙ h.3)) [
+    | inl p ↦ inl (h.0, h.1, h.2, p)
+    | inr p ↦ inr
+        (h.0, h.1, h.2, p)
+  ]),
+  λ s. elim s [
+    | inl h ↦ (h.0, h.1, h.2, split h.0 ∙ or_left _ _ h.3)
+    | inr
+        h ↦ (h.0, h.1, h.2, split h.0 ∙ or_right _ _ h.3)
+  ],
 )
   where
-    split : (n : ℕ) → is_one (λ w. fence_orders w a.kind Both) (insn_at t.insns a.name.hart n) ≡ (is_one (λ w. fence_orders w a.kind Load) (insn_at t.insns a.name.hart n) || is_one (λ w. fence_orders w a.kind Store) (insn_at t.insns a.name.hart n))
+    split : (n : ℕ) → is_one (λ w. fence_orders w a.kind Both)
+        (insn_at t.insns a.name.hart n) ≡ (is_one (λ w. fence_orders w a.kind Load) (insn_at t.insns a.name.hart n)
+        || is_one (λ w. fence_orders w a.kind Store) (insn_at t.insns a.name.hart n))
     split n = one_or _ _ _ (insn_at t.insns a.name.hart n) (λ w. orders_second w a.kind)
 second_both R5 t a b = same (Holds R5 t a b)
 second_both R6 t a b = same (Holds R6 t a b)
@@ -123,7 +158,7 @@ second_both R8 t a b = same (Holds R8 t a b)
 second_both R9 t a b = same (Holds R9 t a b)
 second_both R10 t a b = same (Holds R10 t a b)
 second_both R11 t a b = ((λ h. inr h), λ s. elim s [ inl h ↦ absurd (false≢true h.0) | inr h ↦ h ])
-second_both R12 t a b = ((λ h. inl h), λ s. elim s [ inl h ↦ h | inr h ↦ absurd (false≢true h.4.1) ])
+second_both R12 t a b = ((λ h. inl h), λ s. elim s [ inl h ↦ h | inr h ↦ absurd (false≢true h.3.1.2) ])
 second_both R13 t a b = ((λ h. inr h), λ s. elim s [ inl h ↦ absurd (false≢true h.0) | inr h ↦ h ])
 
 of_kind : (o : Op) → o.kind ≡ Both → as_kind Both o ≡ o
@@ -131,6 +166,8 @@ of_kind o e = λ i. record o { kind = sym e i }
 
 pub amo_both : AmoIsLoadAndStore
 amo_both k t a b = record {
-  first = λ e. subst (λ (z : Op). Holds k t z b ↔ (Holds k t (as_kind Load z) b ⊎ Holds k t (as_kind Store z) b)) (of_kind a e) (first_both k t a b);
-  second = λ e. subst (λ (z : Op). Holds k t a z ↔ (Holds k t a (as_kind Load z) ⊎ Holds k t a (as_kind Store z))) (of_kind b e) (second_both k t a b);
+  first = λ e. subst (λ (z : Op). Holds k t z b ↔ (Holds k t (as_kind Load z) b ⊎ Holds k t (as_kind Store z) b))
+      (of_kind a e) (first_both k t a b);
+  second = λ e. subst (λ (z : Op). Holds k t a z ↔ (Holds k t a (as_kind Load z) ⊎ Holds k t a (as_kind Store z)))
+      (of_kind b e) (second_both k t a b);
 }

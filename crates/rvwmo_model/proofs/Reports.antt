@@ -1,25 +1,14 @@
 -- At most one pair is reported.
 use Rattle.std.proofs.Common.{◌<◌, ◌≡◌, ◌⊎◌, inl, inr, false, sym, subst, arith, [], ◌∷◌}
 use Rattle.std.proofs.lemmas.Bool.{cases_order}
-use Rattle.tandem_base.specs.declared.names.OpName.{OpName}
+use Rattle.std.proofs.lemmas.List.Elements.{Contains-append_left}
 use Rattle.rvwmo_model.specs.declared.operations.Op.{Op}
 use Rattle.rvwmo_model.specs.declared.traces.Trace.{Trace}
-use Rattle.rvwmo_model.specs.Order.{named_before}
 use Rattle.rvwmo_model.specs.Rules.{Rule}
 use Rattle.rvwmo_model.specs.Report.{number, IsReported}
 use Rattle.rvwmo_model.specs.Laws.{ReportIsOne}
-use Rattle.rvwmo_model.proofs.Membership.{in_left}
-use Rattle.rvwmo_model.proofs.Orders.{earlier_total}
-use Rattle.rvwmo_model.proofs.Totality.{stand_alike}
-
--- names with the same numbers are the same
-pub same_name : (m n : OpName) → named_before m n ≡ false → named_before n m ≡ false → m ≡ n
-same_name m n p q =
-    let e = earlier_total (m.hart ∷ m.tag ∷ m.part ∷ []) (n.hart ∷ n.tag ∷ n.part ∷ []) p q in
-    let a : m.hart ≡ n.hart = cc in
-    let b : m.tag ≡ n.tag = cc in
-    let c : m.part ≡ n.part = cc in
-    λ i. record { hart = a i; tag = b i; part = c i }
+use Rattle.rvwmo_model.proofs.Orders.{name_total}
+use Rattle.rvwmo_model.proofs.Totality.{one_name, stand_alike}
 
 number_one : (j k : Rule) → number j ≡ number k → j ≡ k
 number_one j k e = grind arith
@@ -43,10 +32,13 @@ report_one t f j k a b c d p q = (same, first, second)
     q' = subst (λ (r : Rule). IsReported t r c d) (sym same) q
 
     second : b ≡ d
-    second = f.apart b d p.first.here.second_in q'.first.here.second_in (same_name b.name d.name (q'.second.least b p.second.offends) (p.second.least d q'.second.offends))
+    second = one_name t b d f p.first.here.second_in q'.first.here.second_in
+        (name_total b.name d.name (q'.second.least b p.second.offends) (p.second.least d q'.second.offends))
 
     q'' : IsReported t j c b
     q'' = subst (λ (o : Op). IsReported t j c o) (sym second) q'
 
     first : a ≡ c
-    first = stand_alike t a c f (in_left t.ops t.early a p.first.here.first_in) (in_left t.ops t.early c q''.first.here.first_in) (p.first.latest c q''.first.here) (q''.first.latest a p.first.here)
+    first = stand_alike t a c f (Contains-append_left t.ops t.early a p.first.here.first_in)
+        (Contains-append_left t.ops t.early c q''.first.here.first_in) (p.first.latest c q''.first.here)
+        (q''.first.latest a p.first.here)

@@ -1,6 +1,7 @@
 -- A trace has one answer.
 use Rattle.std.proofs.Common.{ℕ, ◌<◌, ◌≡◌, inl, inr, true, ◌||◌, Option, Some, None, sym, ap, subst, ◌∙◌, arith}
 use Rattle.std.proofs.lemmas.Bool.{cases_order, both_ways, or_left}
+use Rattle.std.specs.List.{Contains}
 use Rattle.tandem_base.specs.declared.names.OpName.{OpName}
 use Rattle.tandem_base.specs.declared.names.Origin.{Origin}
 use Rattle.rv_decode.specs.declared.instruction.Insn.{Insn}
@@ -8,30 +9,36 @@ use Rattle.rvwmo_model.specs.declared.answers.Judged.TheVariants as judged
 use Rattle.rvwmo_model.specs.declared.instructions.Retired.{Retired}
 use Rattle.rvwmo_model.specs.declared.operations.Op.{Op}
 use Rattle.rvwmo_model.specs.declared.traces.Trace.{Trace}
-use Rattle.rvwmo_model.specs.Members.{In, everything}
-use Rattle.rvwmo_model.specs.Order.{got_at}
+use Rattle.rvwmo_model.specs.Order.{got_at, everything}
 use Rattle.rvwmo_model.specs.ProgramOrder.{insn_at, is_one}
-use Rattle.rvwmo_model.specs.Sources.{source, given, key_of}
-use Rattle.rvwmo_model.specs.Rules.{Rule, is_lr, is_sc}
+use Rattle.rvwmo_model.specs.Sources.{source, byte_from, key_of}
+use Rattle.rvwmo_model.specs.Rules.{Rule}
 use Rattle.rvwmo_model.specs.Atomicity.{IsPair, Unpaired, IsLate, WritesBlock, IntrudesBlock}
 use Rattle.rvwmo_model.specs.Legal.{WrongValue}
 use Rattle.rvwmo_model.specs.InForm.{InForm}
-use Rattle.rvwmo_model.specs.Report.{number, IsLeast, IsLowest, IsLatest, HasWrong, IsTorn, IsForeign, Blamed, late, foreign, Shown, byte, block}
+use Rattle.rvwmo_model.specs.Report.{number, IsLeast, IsLowest, IsLatest, HasWrong, IsTorn, IsForeign, Blamed, late}
+use Rattle.rvwmo_model.specs.Report.{foreign, Shown, byte, block}
 use Rattle.rvwmo_model.specs.Laws.{AnswerIsOne}
 use Rattle.rvwmo_model.proofs.Answered.{legal_is}
-use Rattle.rvwmo_model.proofs.Reports.{same_name, report_one}
+use Rattle.rvwmo_model.proofs.Orders.{name_total}
+use Rattle.rvwmo_model.proofs.Reports.{report_one}
 use Rattle.rvwmo_model.proofs.Tested.{one_some}
-use Rattle.rvwmo_model.proofs.Totality.{stand_alike}
+use Rattle.rvwmo_model.proofs.Totality.{one_name, stand_alike}
 use Rattle.rvwmo_model.proofs.Walks.{found_in}
+use Rattle.rvwmo_model.specs.InsnKinds.{is_lr, is_sc}
 
-least_one : (t : Trace) (P : Op → Type 0) (a b : Op) → InForm t → ((o : Op) → P o → In o t.ops) → IsLeast P a → IsLeast P b → a ≡ b
-least_one t P a b f only l m = f.apart a b (only a l.offends) (only b m.offends) (same_name a.name b.name (m.least a l.offends) (l.least b m.offends))
+least_one : (t : Trace) (P : Op → Type 0) (a b : Op) → InForm t → ((o : Op) → P o → Contains t.ops o) → IsLeast P a
+    → IsLeast P b → a ≡ b
+least_one t P a b f only l m = one_name t a b f (only a l.offends) (only b m.offends)
+    (name_total a.name b.name (m.least a l.offends) (l.least b m.offends))
 
 lowest_one : (P : ℕ → Type 0) (x y : ℕ) → IsLowest P x → IsLowest P y → x ≡ y
 lowest_one P x y l m = let a = l.lowest y m.here in let b = m.lowest x l.here in omega arith
 
-latest_one : (t : Trace) (P : Op → Type 0) (a b : Op) → InForm t → ((o : Op) → P o → In o (everything t)) → IsLatest P a → IsLatest P b → a ≡ b
-latest_one t P a b f only l m = stand_alike t a b f (only a l.here) (only b m.here) (l.latest b m.here) (m.latest a l.here)
+latest_one : (t : Trace) (P : Op → Type 0) (a b : Op) → InForm t → ((o : Op) → P o → Contains (everything t) o)
+    → IsLatest P a → IsLatest P b → a ≡ b
+latest_one t P a b f only l m = stand_alike t a b f (only a l.here) (only b m.here) (l.latest b m.here)
+    (m.latest a l.here)
 
 -- ---- an SC has one LR
 
@@ -40,7 +47,8 @@ lr_parts None e = e
 lr_parts (Some w) e = or_left (is_lr w.insn) (is_sc w.insn) e
 
 -- an LR has one operation
-op_one : (t : Trace) (r s : Op) → InForm t → In r t.ops → In s t.ops → s.name.hart ≡ r.name.hart → s.name.tag ≡ r.name.tag → is_one is_lr (insn_at t.insns r.name.hart r.name.tag) ≡ true → r ≡ s
+op_one : (t : Trace) (r s : Op) → InForm t → Contains t.ops r → Contains t.ops s → s.name.hart ≡ r.name.hart
+    → s.name.tag ≡ r.name.tag → is_one is_lr (insn_at t.insns r.name.hart r.name.tag) ≡ true → r ≡ s
 op_one t r s f hr hs h g e =
     let w = one_some is_lr (insn_at t.insns r.name.hart r.name.tag) e in
     let i = found_in t.insns r.name.hart r.name.tag w.0 w.1 in
@@ -51,12 +59,13 @@ op_one t r s f hr hs h g e =
 not_first : (t : Trace) (r s w : Op) → IsPair t r w → IsPair t s w → r.name.tag < s.name.tag → ⊥
 not_first t r s w p q l =
     let same : s.name.hart ≡ r.name.hart = sym q.one_hart ∙ p.one_hart in
-    let lr : is_one is_lr (insn_at t.insns r.name.hart s.name.tag) ≡ true = subst (λ (h : ℕ). is_one is_lr (insn_at t.insns h s.name.tag) ≡ true) same q.paired.1 in
-    both_ways _ (p.paired.3 s.name.tag l q.paired.0) (lr_parts (insn_at t.insns r.name.hart s.name.tag) lr)
+    let lr : is_one is_lr (insn_at t.insns r.name.hart s.name.tag) ≡ true =
+    subst (λ (h : ℕ). is_one is_lr (insn_at t.insns h s.name.tag) ≡ true) same q.paired.0 in
+    p.paired.2 (s.name.tag, l, q.in_order, lr_parts (insn_at t.insns r.name.hart s.name.tag) lr)
 
 lr_one : (t : Trace) (r s w : Op) → InForm t → IsPair t r w → IsPair t s w → r ≡ s
 lr_one t r s w f p q = elim (cases_order r.name.tag s.name.tag) [
-  | inl e ↦ op_one t r s f p.lr_in q.lr_in (sym q.one_hart ∙ p.one_hart) (sym e) p.paired.1
+  | inl e ↦ op_one t r s f p.lr_in q.lr_in (sym q.one_hart ∙ p.one_hart) (sym e) p.paired.0
   | inr o ↦ absurd (elim o [ inl l ↦ not_first t r s w p q l | inr l ↦ not_first t s r w q p l ])
 ]
 
@@ -68,7 +77,8 @@ blamed_one t r w x _ _ f (late s e l) (foreign u n m) = absurd (n (subst (λ (o 
 blamed_one t r w x _ _ f (foreign s n m) (late u e l) = absurd (n (subst (λ (o : Option Op). IsLate o w) (sym e) l))
 blamed_one t r w x _ _ f (foreign s n l) (foreign u k m) = latest_one t (IsForeign t w x) s u f (λ o h. h.store_in) l m
 
-shown_one : (t : Trace) (r w : Op) (x : ℕ) (s : Op) (y : ℕ) (u : Op) → InForm t → Shown t r w x s → Shown t r w y u → (x ≡ y) × (s ≡ u)
+shown_one : (t : Trace) (r w : Op) (x : ℕ) (s : Op) (y : ℕ) (u : Op) → InForm t → Shown t r w x s → Shown t r w y u
+    → (x ≡ y) × (s ≡ u)
 shown_one t r w _ _ _ _ f (byte x s l b) (byte y u m c) =
     let e = lowest_one _ x y l m in
     (e, blamed_one t r w y s u f (subst (λ (z : ℕ). Blamed t r w z s) e b) c)
@@ -83,55 +93,72 @@ shown_one t r w _ _ _ _ f (block x s n k l) (block y u o j m) =
 pair_same : (m n : OpName) (a b : Op) → a.name ≡ m → b.name ≡ n → a ≡ b → judged.Pair m ≡ judged.Pair n
 pair_same m n a b p q e = ap judged.Pair (sym p ∙ ap (λ (o : Op). o.name) e ∙ q)
 
-value_made : (m : OpName) (x want got : ℕ) (n : OpName) (g o : ℕ) → n ≡ m → want ≡ g → got ≡ o → judged.Value n x g o ≡ judged.Value m x want got
+value_made : (m : OpName) (x want got : ℕ) (n : OpName) (g o : ℕ) → n ≡ m → want ≡ g → got ≡ o
+    → judged.Value n x g o ≡ judged.Value m x want got
 value_made m x want got n g o a b c = λ k. judged.Value (a k) x (sym b k) (sym c k)
 
-value_same : (initial : ℕ → ℕ) (t : Trace) (i j : Op) (x y : ℕ) → i ≡ j → x ≡ y → judged.Value i.name x (given initial (source t i x) x) (got_at i x) ≡ judged.Value j.name y (given initial (source t j y) y) (got_at j y)
-value_same initial t i j x y e d = λ k. judged.Value (e k).name (d k) (given initial (source t (e k) (d k)) (d k)) (got_at (e k) (d k))
+value_same : (initial : ℕ → ℕ) (t : Trace) (i j : Op) (x y : ℕ) → i ≡ j → x ≡ y
+    → judged.Value i.name x (byte_from initial (source t i x) x) (got_at i x) ≡ judged.Value j.name y
+    (byte_from initial (source t j y) y) (got_at j y)
+value_same initial t i j x y e d = λ k. judged.Value (e k).name (d k) (byte_from initial (source t (e k) (d k)) (d k))
+    (got_at (e k) (d k))
 
-order_made : (rule : ℕ) (m n : OpName) (l : ℕ) (p q : OpName) → rule ≡ l → p ≡ m → q ≡ n → judged.Order l p q ≡ judged.Order rule m n
+order_made : (rule : ℕ) (m n : OpName) (l : ℕ) (p q : OpName) → rule ≡ l → p ≡ m → q ≡ n
+    → judged.Order l p q ≡ judged.Order rule m n
 order_made rule m n l p q a b c = λ k. judged.Order (sym a k) (b k) (c k)
 
-order_same : (j k : Rule) (a b c d : Op) → j ≡ k → a ≡ c → b ≡ d → judged.Order (number j) a.name b.name ≡ judged.Order (number k) c.name d.name
+order_same : (j k : Rule) (a b c d : Op) → j ≡ k → a ≡ c → b ≡ d
+    → judged.Order (number j) a.name b.name ≡ judged.Order (number k) c.name d.name
 order_same j k a b c d e f g = λ i. judged.Order (number (e i)) (f i).name (g i).name
 
-torn_made : (m : OpName) (x : ℕ) (s : Origin) (n : OpName) (o : Origin) → n ≡ m → o ≡ s → judged.Atomicity n x o ≡ judged.Atomicity m x s
+torn_made : (m : OpName) (x : ℕ) (s : Origin) (n : OpName) (o : Origin) → n ≡ m → o ≡ s
+    → judged.Atomicity n x o ≡ judged.Atomicity m x s
 torn_made m x s n o a b = λ k. judged.Atomicity (a k) x (b k)
 
-torn_same : (w v : Op) (x y : ℕ) (s u : Op) → w ≡ v → x ≡ y → s ≡ u → judged.Atomicity w.name x (key_of s) ≡ judged.Atomicity v.name y (key_of u)
+torn_same : (w v : Op) (x y : ℕ) (s u : Op) → w ≡ v → x ≡ y → s ≡ u
+    → judged.Atomicity w.name x (key_of s) ≡ judged.Atomicity v.name y (key_of u)
 torn_same w v x y s u e f g = λ i. judged.Atomicity (e i).name (f i) (key_of (g i))
 
 pub answer_one : AnswerIsOne
 answer_one initial t f judged.Legal q h k = sym ((legal_is initial t q k).1 h)
 answer_one initial t f p judged.Legal h k = (legal_is initial t p h).1 k
-answer_one initial t f (judged.Pair m) (judged.Pair n) h k = pair_same m n h.0 k.0 h.1 k.1 (least_one t (Unpaired t) h.0 k.0 f (λ o u. u.sc_in) h.2 k.2)
+answer_one initial t f (judged.Pair m) (judged.Pair n) h k =
+    pair_same m n h.0 k.0 h.1 k.1 (least_one t (Unpaired t) h.0 k.0 f (λ o u. u.sc_in) h.2 k.2)
 answer_one initial t f (judged.Pair m) (judged.Value n x want got) h k = absurd (k.0 h.0 h.2.offends)
 answer_one initial t f (judged.Pair m) (judged.Order rule first second) h k = absurd (k.0 h.0 h.2.offends)
 answer_one initial t f (judged.Pair m) (judged.Atomicity n x store) h k = absurd (k.0 h.0 h.2.offends)
 answer_one initial t f (judged.Value m x want got) (judged.Pair n) h k = absurd (h.0 k.0 k.2.offends)
 answer_one initial t f (judged.Value m x want got) (judged.Value n y want' got') h k =
     let same : h.1.0 ≡ k.1.0 = least_one t (HasWrong initial t) h.1.0 k.1.0 f (λ o u. u.1.load_in) h.1.2 k.1.2 in
-    let at : x ≡ y = lowest_one (WrongValue initial t k.1.0) x y (subst (λ (i : Op). IsLowest (WrongValue initial t i) x) same h.1.3) k.1.3 in
-    sym (value_made m x want got h.1.0.name (given initial (source t h.1.0 x) x) (got_at h.1.0 x) h.1.1 h.1.4 h.1.5)
+    let at : x ≡ y =
+    lowest_one (WrongValue initial t k.1.0) x y
+    (subst (λ (i : Op). IsLowest (WrongValue initial t i) x) same h.1.3) k.1.3 in
+    sym (value_made m x want got h.1.0.name (byte_from initial (source t h.1.0 x) x) (got_at h.1.0 x) h.1.1 h.1.4 h.1.5)
     ∙ value_same initial t h.1.0 k.1.0 x y same at
-    ∙ value_made n y want' got' k.1.0.name (given initial (source t k.1.0 y) y) (got_at k.1.0 y) k.1.1 k.1.4 k.1.5
-answer_one initial t f (judged.Value m x want got) (judged.Order rule first second) h k = absurd (k.1 h.1.0 x h.1.3.here)
+    ∙ value_made n y want' got' k.1.0.name (byte_from initial (source t k.1.0 y) y) (got_at k.1.0 y) k.1.1 k.1.4 k.1.5
+answer_one initial t f (judged.Value m x want got) (judged.Order rule first second) h k =
+    absurd (k.1 h.1.0 x h.1.3.here)
 answer_one initial t f (judged.Value m x want got) (judged.Atomicity n y store) h k = absurd (k.1 h.1.0 x h.1.3.here)
 answer_one initial t f (judged.Order rule first second) (judged.Pair n) h k = absurd (h.0 k.0 k.2.offends)
-answer_one initial t f (judged.Order rule first second) (judged.Value n y want got) h k = absurd (h.1 k.1.0 y k.1.3.here)
+answer_one initial t f (judged.Order rule first second) (judged.Value n y want got) h k =
+    absurd (h.1 k.1.0 y k.1.3.here)
 answer_one initial t f (judged.Order rule first second) (judged.Order rule' first' second') h k =
     let one = report_one t f h.2.0 k.2.0 h.2.1 h.2.2 k.2.1 k.2.2 h.2.6 k.2.6 in
     sym (order_made rule first second (number h.2.0) h.2.1.name h.2.2.name h.2.3 h.2.4 h.2.5)
     ∙ order_same h.2.0 k.2.0 h.2.1 h.2.2 k.2.1 k.2.2 one.0 one.1 one.2
     ∙ order_made rule' first' second' (number k.2.0) k.2.1.name k.2.2.name k.2.3 k.2.4 k.2.5
-answer_one initial t f (judged.Order rule first second) (judged.Atomicity n y store) h k = absurd (k.2 h.2.0 h.2.1 h.2.2 h.2.6.first.here)
+answer_one initial t f (judged.Order rule first second) (judged.Atomicity n y store) h k =
+    absurd (k.2 h.2.0 h.2.1 h.2.2 h.2.6.first.here)
 answer_one initial t f (judged.Atomicity m x store) (judged.Pair n) h k = absurd (h.0 k.0 k.2.offends)
 answer_one initial t f (judged.Atomicity m x store) (judged.Value n y want got) h k = absurd (h.1 k.1.0 y k.1.3.here)
-answer_one initial t f (judged.Atomicity m x store) (judged.Order rule first second) h k = absurd (h.2 k.2.0 k.2.1 k.2.2 k.2.6.first.here)
+answer_one initial t f (judged.Atomicity m x store) (judged.Order rule first second) h k =
+    absurd (h.2 k.2.0 k.2.1 k.2.2 k.2.6.first.here)
 answer_one initial t f (judged.Atomicity m x store) (judged.Atomicity n y store') h k =
     let sc : h.3.0 ≡ k.3.0 = least_one t (IsTorn t) h.3.0 k.3.0 f (λ o u. u.1.pair.sc_in) h.3.4 k.3.4 in
-    let lr : h.3.1 ≡ k.3.1 = lr_one t h.3.1 k.3.1 k.3.0 f (subst (λ (z : Op). IsPair t h.3.1 z) sc h.3.5.pair) k.3.5.pair in
-    let shown : Shown t k.3.1 k.3.0 x h.3.2 = subst (λ (z : Op). Shown t k.3.1 z x h.3.2) sc (subst (λ (z : Op). Shown t z h.3.0 x h.3.2) lr h.3.6) in
+    let lr : h.3.1 ≡ k.3.1 = lr_one t h.3.1 k.3.1 k.3.0 f (subst (λ (z : Op). IsPair t h.3.1 z) sc h.3.5.pair)
+    k.3.5.pair in
+    let shown : Shown t k.3.1 k.3.0 x h.3.2 =
+    subst (λ (z : Op). Shown t k.3.1 z x h.3.2) sc (subst (λ (z : Op). Shown t z h.3.0 x h.3.2) lr h.3.6) in
     let one = shown_one t k.3.1 k.3.0 x h.3.2 y k.3.2 f shown k.3.6 in
     sym (torn_made m x store h.3.0.name (key_of h.3.2) h.3.3 h.3.7)
     ∙ torn_same h.3.0 k.3.0 x y h.3.2 k.3.2 sc one.0 one.1

@@ -1,26 +1,22 @@
 -- The atomicity axiom (14.1), by bytes and by the reserved block.
-use Rattle.std.specs.Prelude.{ℕ, ◌/◌, ◌<◌, ◌≡◌, ◌≢◌, ◌⊎◌, ◌&&◌, Bool, true, false, None, Some}
+use Rattle.std.specs.Prelude.{ℕ, ◌/◌, ◌<◌, ◌≡◌, ◌≢◌, ◌⊎◌, true, false, None, Some}
+use Rattle.std.specs.List.{Contains}
 use Rattle.std.specs.declared.option.Option.{Option}
-use Rattle.rvwmo_model.specs.declared.instructions.Retired.{Retired}
 use Rattle.rvwmo_model.specs.declared.operations.Op.{Op}
 use Rattle.rvwmo_model.specs.declared.traces.Trace.{Trace}
-use Rattle.rvwmo_model.specs.Members.{In, everything}
-use Rattle.rvwmo_model.specs.Order.{covers, reads, writes, precedes}
+use Rattle.rvwmo_model.specs.Order.{everything, covers, reads, writes, precedes}
 use Rattle.rvwmo_model.specs.ProgramOrder.{insn_of}
 use Rattle.rvwmo_model.specs.Sources.{source}
-use Rattle.rvwmo_model.specs.Rules.{is_sc, Paired}
-
--- an SC that succeeded
-abbrev pub has_stored : Option Retired → Bool
-has_stored None = false
-has_stored (Some w) = is_sc w.insn && w.stored
+use Rattle.rvwmo_model.specs.InsnKinds.{has_stored}
+use Rattle.rvwmo_model.specs.Rules.{Paired}
 
 -- r and w are operations of an LR and of the successful SC that it is paired with
 pub record IsPair (t : Trace) (r w : Op) : Type 0 where
-  pub lr_in : In r t.ops
-  pub sc_in : In w t.ops
+  pub lr_in : Contains t.ops r
+  pub sc_in : Contains t.ops w
   pub one_hart : w.name.hart ≡ r.name.hart
-  pub paired : Paired t.insns r.name.hart r.name.tag w.name.tag
+  pub in_order : r.name.tag < w.name.tag
+  pub paired : Paired t r w
   pub stored : has_stored (insn_of t w) ≡ true
 
 -- each byte of w is one of r
@@ -29,7 +25,7 @@ IsWithin w r = (x : ℕ) → covers x w ≡ true → covers x r ≡ true
 
 -- w is of a successful SC that has no pair whose bytes contain its own
 pub record Unpaired (t : Trace) (w : Op) : Type 0 where
-  pub sc_in : In w t.ops
+  pub sc_in : Contains t.ops w
   pub stored : has_stored (insn_of t w) ≡ true
   pub alone : (r : Op) → IsPair t r w → IsWithin w r → ⊥
 
@@ -45,7 +41,7 @@ IsLate (Some s) w = precedes s w ≡ false
 
 -- v is a store of another hart to byte x, after the source of that byte of r and before w
 pub record Intrudes (t : Trace) (r w v : Op) (x : ℕ) : Type 0 where
-  pub store_in : In v (everything t)
+  pub store_in : Contains (everything t) v
   pub stores : writes x v ≡ true
   pub other : v.name.hart ≢ w.name.hart
   pub after : IsAfter (source t r x) v
@@ -65,7 +61,7 @@ WritesBlock t r v x = (writes x v ≡ true) × InBlock t r x
 
 -- v is a store of another hart to the block of r, after r and before w
 pub record IntrudesBlock (t : Trace) (r w v : Op) : Type 0 where
-  pub store_in : In v (everything t)
+  pub store_in : Contains (everything t) v
   pub stores : (x : ℕ) × WritesBlock t r v x
   pub other : v.name.hart ≢ w.name.hart
   pub after : precedes r v ≡ true

@@ -1,12 +1,13 @@
+pub mod Annotations
 pub mod Answer
 pub mod Atomicity
 pub mod Dependencies
 pub mod Flows
 pub mod InForm
+pub mod InsnKinds
 pub mod Initial
 pub mod Laws
 pub mod Legal
-pub mod Members
 pub mod Order
 pub mod ProgramOrder
 pub mod Report

@@ -1,66 +1,90 @@
 -- The global order of operations, and the bytes of an operation.
-use Rattle.std.specs.Prelude.{ℕ, ◌-◌, ◌/◌, ◌%◌, ◌^◌, ◌==◌, ◌&&◌, ◌||◌, nat_lt, nat_le, List, [], ◌∷◌, Bool, true, false, None, Some, slice_index}
+use Rattle.std.specs.Prelude.{ℕ, ◌-◌, ◌/◌, ◌%◌, ◌^◌, ◌==◌, ◌&&◌, ◌||◌, nat_lt, nat_le, List, ◌++◌, Bool, true, false}
+use Rattle.std.specs.Prelude.{None, Some, slice_index}
 use Rattle.std.specs.declared.option.Option.{Option}
 use Rattle.tandem_base.specs.declared.names.OpName.{OpName}
 use Rattle.tandem_base.specs.declared.names.Place.{Place}
+use Rattle.tandem_base.specs.Places.{earlier}
 use Rattle.rvwmo_model.specs.declared.operations.Op.{Op}
 use Rattle.rvwmo_model.specs.declared.operations.OpKind.{OpKind}
 use Rattle.rvwmo_model.specs.declared.operations.OpKind.TheVariants.{Load, Store, Both}
+use Rattle.rvwmo_model.specs.declared.traces.Trace.{Trace}
 
--- one list of numbers comes before another: the first difference decides
-unfoldable pub earlier : List ℕ → List ℕ → Bool
-earlier xs [] = false
-earlier [] (y ∷ ys) = true
-earlier (x ∷ xs) (y ∷ ys) = nat_lt x y || ((x == y) && earlier xs ys)
+-- where an operation stands in the global order: at the place at which it was performed, or, where it wasn't, with the
+-- waiting stores, by its hart and tag
+pub data Standing : Type 0 where
+  performed : Place → Standing
+  waiting : (hart tag : ℕ) → Standing
 
-abbrev pub place_rank : Place → List ℕ
-place_rank p = p.time ∷ p.message ∷ p.insert ∷ []
+-- where an operation of that name and place stands
+abbrev pub standing_of : OpName → Option Place → Standing
+standing_of n (Some p) = performed p
+standing_of n None = waiting n.hart n.tag
 
--- what is performed comes first, by its place; what is not comes after it, by hart, then in program order
-abbrev pub rank_of : OpName → Option Place → List ℕ
-rank_of n (Some p) = 0 ∷ place_rank p
-rank_of n None = 1 ∷ n.hart ∷ n.tag ∷ []
+-- where an operation stands
+abbrev pub standing : Op → Standing
+standing o = standing_of o.name o.place
 
-abbrev pub rank : Op → List ℕ
-rank o = rank_of o.name o.place
+-- what is performed comes first, by its place; what waits comes after it, by hart, then in program order
+unfoldable pub stands_before : Standing → Standing → Bool
+stands_before (performed p) (performed q) = earlier p q
+stands_before (performed p) (waiting h k) = true
+stands_before (waiting g j) (performed q) = false
+stands_before (waiting g j) (waiting h k) = nat_lt g h || ((g == h) && nat_lt j k)
 
 -- a precedes b in the global memory order (14.1)
 abbrev pub precedes : Op → Op → Bool
-precedes a b = earlier (rank a) (rank b)
+precedes a b = stands_before (standing a) (standing b)
+
+-- all that is in the global order: the operations, and the stores that were performed for instructions that have not
+-- retired
+abbrev pub everything : Trace → List Op
+everything t = t.ops ++ t.early
 
 -- the order in which operations are named: by hart, then in program order, then by part
-abbrev pub named_before : OpName → OpName → Bool
-named_before m n = earlier (m.hart ∷ m.tag ∷ m.part ∷ []) (n.hart ∷ n.tag ∷ n.part ∷ [])
+unfoldable pub named_before : OpName → OpName → Bool
+named_before m n =
+    nat_lt m.hart n.hart
+    || ((m.hart == n.hart) && (nat_lt m.tag n.tag || ((m.tag == n.tag) && nat_lt m.part n.part)))
 
+-- an operation of that kind loads
 abbrev pub kind_loads : OpKind → Bool
 kind_loads Load = true
 kind_loads Store = false
 kind_loads Both = true
 
+-- an operation of that kind stores
 abbrev pub kind_stores : OpKind → Bool
 kind_stores Load = false
 kind_stores Store = true
 kind_stores Both = true
 
+-- an operation loads
 abbrev pub loads : Op → Bool
 loads o = kind_loads o.kind
 
+-- an operation stores
 abbrev pub stores : Op → Bool
 stores o = kind_stores o.kind
 
 -- the byte at x is one of the operation's: it lies in the extent, and its bit of the mask is set
 abbrev pub covers : ℕ → Op → Bool
-covers x o = nat_le o.extent.addr x && nat_lt (x - o.extent.addr) o.extent.len && ((o.mask / 2 ^ (x - o.extent.addr)) % 2 == 1)
+covers x o =
+    nat_le o.extent.addr x && nat_lt (x - o.extent.addr) o.extent.len
+    && ((o.mask / 2 ^ (x - o.extent.addr)) % 2 == 1)
 
+-- the operation stores to the byte at x
 abbrev pub writes : ℕ → Op → Bool
 writes x o = stores o && covers x o
 
+-- the operation loads the byte at x
 abbrev pub reads : ℕ → Op → Bool
 reads x o = loads o && covers x o
 
--- what the operation loaded from the byte at x, and what it stored there
+-- what the operation loaded from the byte at x
 abbrev pub got_at : Op → ℕ → ℕ
 got_at o x = slice_index o.got (x - o.extent.addr)
 
+-- what it stored there
 abbrev pub put_at : Op → ℕ → ℕ
 put_at o x = slice_index o.put (x - o.extent.addr)

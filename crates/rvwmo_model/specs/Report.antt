@@ -1,16 +1,17 @@
 -- Which offence of a trace is answered.
 use Rattle.std.specs.Prelude.{ℕ, ◌<◌, ◌≤◌, ◌≡◌, ◌≢◌, true, false, Some}
+use Rattle.std.specs.List.{Contains}
 use Rattle.rvwmo_model.specs.declared.answers.Judged.{Judged}
 use Rattle.rvwmo_model.specs.declared.answers.Judged.TheVariants as judged
 use Rattle.rvwmo_model.specs.declared.operations.Op.{Op}
 use Rattle.rvwmo_model.specs.declared.traces.Trace.{Trace}
-use Rattle.rvwmo_model.specs.Members.{In, everything}
-use Rattle.rvwmo_model.specs.Order.{precedes, named_before, writes, got_at}
-use Rattle.rvwmo_model.specs.Sources.{source, given, key_of}
+use Rattle.rvwmo_model.specs.Order.{everything, precedes, named_before, writes, got_at}
+use Rattle.rvwmo_model.specs.Sources.{source, byte_from, key_of}
 use Rattle.rvwmo_model.specs.Rules.{Rule, R1, R2, R3, R4, R5, R6, R7, R8, R9, R10, R11, R12, R13, Broken}
 use Rattle.rvwmo_model.specs.Atomicity.{Unpaired, IsLate, IsTornAt, WritesBlock, IntrudesBlock, Torn}
 use Rattle.rvwmo_model.specs.Legal.{WrongValue, Legal}
 
+-- the manual's number of a rule
 abbrev pub number : Rule → ℕ
 number R1 = 1
 number R2 = 2
@@ -26,7 +27,8 @@ number R11 = 11
 number R12 = 12
 number R13 = 13
 
--- o offends, and none that offends is of a lower hart, or of that and earlier in program order, or of that and of a lesser part
+-- o offends, and none that offends is of a lower hart, or of that and earlier in program order, or of that and of a
+-- lesser part
 pub record IsLeast (Offends : Op → Type 0) (o : Op) : Type 0 where
   pub offends : Offends o
   pub least : (v : Op) → Offends v → named_before v.name o.name ≡ false
@@ -45,7 +47,8 @@ pub record IsLatest (P : Op → Type 0) (v : Op) : Type 0 where
 abbrev pub IsSecond : Rule → Trace → Op → Type 0
 IsSecond k t b = (a : Op) × Broken k t a b
 
--- the broken pair that is reported: of the least rule that is broken, with the second operation of the least name, and with the latest first operation
+-- the broken pair that is reported: of the least rule that is broken, with the second operation of the least name, and
+-- with the latest first operation
 pub record IsReported (t : Trace) (k : Rule) (a b : Op) : Type 0 where
   pub rule : (j : Rule) → number j < number k → (c d : Op) → Broken j t c d → ⊥
   pub second : IsLeast (IsSecond k t) b
@@ -61,40 +64,53 @@ IsTorn t w = (r : Op) × Torn t r w
 
 -- v is a store to byte x by another hart than that of w, before w
 pub record IsForeign (t : Trace) (w : Op) (x : ℕ) (v : Op) : Type 0 where
-  pub store_in : In v (everything t)
+  pub store_in : Contains (everything t) v
   pub stores : writes x v ≡ true
   pub other : v.name.hart ≢ w.name.hart
   pub before : precedes v w ≡ true
 
--- the store that is named at a byte: its source where that is too late, else the last store of another hart to it before w
+-- the store that is named at a byte: its source where that is too late, else the last store of another hart to it
+-- before w
 pub data Blamed (t : Trace) (r w : Op) (x : ℕ) : Op → Type 0 where
+  -- its source
   late : (s : Op) → source t r x ≡ Some s → precedes s w ≡ false → Blamed t r w x s
+  -- the last store of another hart
   foreign : (s : Op) → (IsLate (source t r x) w → ⊥) → IsLatest (IsForeign t w x) s → Blamed t r w x s
 
--- the byte and the store that are named for the pair r and w: by the lowest byte of r that shows it, else by the last store to the block, at its lowest address there
+-- the byte and the store that are named for the pair r and w: by the lowest byte of r that shows it, else by the last
+-- store to the block, at its lowest address there
 pub data Shown (t : Trace) (r w : Op) : ℕ → Op → Type 0 where
+  -- a byte of r shows it
   byte : (x : ℕ) (s : Op) → IsLowest (IsTornAt t r w) x → Blamed t r w x s → Shown t r w x s
-  block : (x : ℕ) (s : Op) → ((y : ℕ) → IsTornAt t r w y → ⊥) → IsLatest (IntrudesBlock t r w) s → IsLowest (WritesBlock t r s) x → Shown t r w x s
+  -- its block does
+  block : (x : ℕ) (s : Op) → ((y : ℕ) → IsTornAt t r w y → ⊥) → IsLatest (IntrudesBlock t r w) s
+      → IsLowest (WritesBlock t r s) x → Shown t r w x s
 
+-- each successful SC has its pair
 abbrev pub AllPaired : Trace → Type 0
 AllPaired t = (w : Op) → Unpaired t w → ⊥
 
+-- each byte loaded is its source's
 abbrev pub AllRight : (ℕ → ℕ) → Trace → Type 0
 AllRight initial t = (i : Op) (x : ℕ) → WrongValue initial t i x → ⊥
 
+-- no pair is broken
 abbrev pub AllOrdered : Trace → Type 0
 AllOrdered t = (k : Rule) (a b : Op) → Broken k t a b → ⊥
 
 -- the answer to a trace: the first offence of pair, value, order and atomicity, or that it is legal
-abbrev pub Answers : (ℕ → ℕ) → Trace → Judged → Type 0
-Answers initial t judged.Legal = Legal initial t
-Answers initial t (judged.Pair name) = (w : Op) × (w.name ≡ name) × IsLeast (Unpaired t) w
-Answers initial t (judged.Value name x want got) =
-    AllPaired t × ((i : Op) × (i.name ≡ name) × IsLeast (HasWrong initial t) i × IsLowest (WrongValue initial t i) x
-    × (want ≡ given initial (source t i x) x) × (got ≡ got_at i x))
-Answers initial t (judged.Order rule first second) =
+abbrev pub IsAnswer : (ℕ → ℕ) → Trace → Judged → Type 0
+IsAnswer initial t judged.Legal = Legal initial t
+IsAnswer initial t (judged.Pair name) = (w : Op) × (w.name ≡ name) × IsLeast (Unpaired t) w
+IsAnswer initial t (judged.Value name x want got) =
+    AllPaired t
+    × ((i : Op) × (i.name ≡ name) × IsLeast (HasWrong initial t) i × IsLowest (WrongValue initial t i) x
+    × (want ≡ byte_from initial (source t i x) x) × (got ≡ got_at i x))
+IsAnswer initial t (judged.Order rule first second) =
     AllPaired t × AllRight initial t
-    × ((k : Rule) × (a : Op) × (b : Op) × (rule ≡ number k) × (a.name ≡ first) × (b.name ≡ second) × IsReported t k a b)
-Answers initial t (judged.Atomicity name x store) =
+    × ((k : Rule) × (a : Op) × (b : Op) × (rule ≡ number k) × (a.name ≡ first) × (b.name ≡ second)
+    × IsReported t k a b)
+IsAnswer initial t (judged.Atomicity name x store) =
     AllPaired t × AllRight initial t × AllOrdered t
-    × ((w : Op) × (r : Op) × (s : Op) × (w.name ≡ name) × IsLeast (IsTorn t) w × Torn t r w × Shown t r w x s × (key_of s ≡ store))
+    × ((w : Op) × (r : Op) × (s : Op) × (w.name ≡ name) × IsLeast (IsTorn t) w × Torn t r w × Shown t r w x s
+    × (key_of s ≡ store))

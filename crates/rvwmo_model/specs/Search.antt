@@ -3,11 +3,6 @@ use Rattle.std.specs.Prelude.{ℕ, zero, suc, ◌+◌, ◌||◌, List, [], ◌�
 use Rattle.std.specs.declared.option.Option.{Option}
 use Rattle.rvwmo_model.specs.declared.operations.Op.{Op}
 
--- some element passes
-abbrev pub some_of : {X : Type 0} → (X → Bool) → List X → Bool
-some_of p [] = false
-some_of p (x ∷ xs) = p x || some_of p xs
-
 -- some address from addr up, of so many, passes
 unfoldable pub some_at : (ℕ → Bool) → ℕ → ℕ → Bool
 some_at p addr zero = false
@@ -40,8 +35,3 @@ better_of better (Some c) x = if better x c then Some x else Some c
 abbrev pub best_from : {X : Type 0} → (X → X → Bool) → Option X → List X → Option X
 best_from better best [] = best
 best_from better best (x ∷ xs) = best_from better (better_of better best x) xs
-
--- the first answer that there is
-abbrev pub or_else : {X : Type 0} → Option X → Option X → Option X
-or_else None other = other
-or_else (Some x) other = Some x

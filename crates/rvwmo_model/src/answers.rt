@@ -1,3 +1,5 @@
+//! What a trace is found to be.
+
 use tandem_base::{OpName, Origin};
 
 /// What a trace was found to be.

@@ -1,3 +1,5 @@
+//! Memory before the first operation.
+
 use elf_image::Image;
 
 /// Memory as it was before the first operation.
@@ -14,9 +16,10 @@ pub trait InitialBytes {
 
 /// An image's byte, or 0 where it has none.
 impl InitialBytes for Image {
+    ghost use Rattle.elf_image.specs.Images.{loaded_of};
     ghost use Rattle.rvwmo_model.specs.Initial.{initial_byte};
 
-    ghost initial_of = { initial_byte };
+    ghost initial_of = { λ image. initial_byte (loaded_of image) };
 
     fn initial(&self, addr: u64) -> u8 {
         self.byte(addr).unwrap_or(0)

@@ -1,4 +1,5 @@
 //! The plain program that judges a trace.
+
 mod answers;
 mod atomic;
 mod rules;
@@ -8,7 +9,7 @@ mod walk;
 ghost use Rattle.std.specs.Prelude.{◌≡◌, ◌↔◌, IfOk};
 ghost use Rattle.rvwmo_model.specs.InForm.{InForm};
 ghost use Rattle.rvwmo_model.specs.Legal.{Legal};
-ghost use Rattle.rvwmo_model.specs.Report.{Answers};
+ghost use Rattle.rvwmo_model.specs.Report.{IsAnswer};
 ghost use Rattle.rvwmo_model.specs.declared.answers.Judged.TheVariants as judged;
 
 use crate::answers::Judged;
@@ -25,11 +26,8 @@ pub fn plain_judge<I: InitialBytes>(
     trace: &Trace,
 ) -> Result<Judged, AllocError>
     requires in_form { InForm trace.now }
-    ensures answer { IfOk result (Answers (I.initial_of image.now) trace.now) }
+    ensures answer { IfOk result (IsAnswer (I.initial_of image.now) trace.now) }
     ensures legal { IfOk result (λ answer. (answer ≡ judged.Legal) ↔ Legal (I.initial_of image.now) trace.now) }
 {
     answers::answer(alloc, image, trace)
 }
-
-#[cfg(test)]
-mod tests;

@@ -1,5 +1,7 @@
 //! Laws of the definitions: functions that do nothing, whose clauses are the laws.
-ghost use Rattle.rvwmo_model.specs.Laws.{GlobalOrder, SourceIsLatest, DependencyIsWalk, FenceTso, FenceBySets, AmoIsLoadAndStore, ReportIsOne, ReportIsWhereBroken, AnswerIsOne};
+
+ghost use Rattle.rvwmo_model.specs.Laws.{GlobalOrder, SourceIsLatest, DependencyIsWalk, FenceTso, FenceBySets};
+ghost use Rattle.rvwmo_model.specs.Laws.{AmoIsLoadAndStore, ReportIsOne, ReportIsWhereBroken, AnswerIsOne};
 
 /// The global order is a strict total order on the operations of a trace in form.
 #[tactic(auto, using(crate::proofs::Totality::total_order))]

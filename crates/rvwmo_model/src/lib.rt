@@ -5,21 +5,26 @@
 //! chapter 14 is the memory model.
 #![tactic(auto)]
 
-pub mod answers;
-pub mod initial;
-pub mod instructions;
+mod answers;
+mod initial;
+mod instructions;
 mod judge;
-pub mod laws;
-pub mod lists;
-pub mod operations;
-pub mod preserved;
-pub mod traces;
+mod laws;
+mod lists;
+mod operations;
+mod preserved;
+mod traces;
 
 pub use answers::Judged;
 pub use initial::InitialBytes;
-pub use instructions::{Register, Retired};
+pub use instructions::Retired;
 pub use judge::plain_judge;
-pub use lists::{InsnList, OpList};
+pub use laws::{
+    amo_is_load_and_store, answer_is_one, dependency_is_walk, fence_orders_kinds,
+    global_order_is_total, report_is_one, report_is_where_broken, source_is_latest,
+};
+pub use lists::{InsnList, ItemList, OpList};
 pub use operations::{Ann, Op, OpKind};
 pub use preserved::Rule;
+pub use rv_decode::registers::Register;
 pub use traces::Trace;

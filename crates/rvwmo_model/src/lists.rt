@@ -1,4 +1,5 @@
 //! Lists of operations and of instructions.
+
 ghost use Rattle.std.specs.Prelude.{◌≡◌, ◌++◌, ◌∷◌, [], length, slice_get, MatchResult};
 ghost use Rattle.std.specs.Option.{option_copied};
 
@@ -7,87 +8,38 @@ use crate::operations::Op;
 use std::alloc::{AllocError, Global};
 use std::marker::Model;
 
-/// A list of operations, in no order of its own.
+/// A list that grows at its end.
 #[derive(Drop)]
-pub struct OpList {
-    items: Vec<Op>,
-}
-
-impl Model for OpList {
-    ghost use Rattle.std.specs.Prelude.{List};
-    ghost use Rattle.rvwmo_model.specs.declared.operations.Op.{Op};
-
-    ghost Value = { List Op };
-
-    ghost view = { λ list. list.items.items };
-}
-
-impl OpList {
-    /// The empty list.
-    pub fn new(alloc: Global) -> OpList
-        ensures { result ≡ [] }
-    {
-        OpList {
-            items: Vec::new(alloc),
-        }
-    }
-
-    /// Puts an operation at the end. Without memory for it the list stays as it is.
-    pub fn push(&mut self, item: Op) -> Result<(), AllocError>
-        ensures { MatchResult result (λ _. self.new ≡ self.old ++ item ∷ []) (λ _. self.new ≡ self.old) }
-    {
-        self.items.push(item)?;
-        Ok(())
-    }
-
-    /// How many there are.
-    pub fn len(&self) -> usize
-        ensures { result ≡ length self.now }
-    {
-        self.items.len()
-    }
-
-    /// Operation `k`, counted from 0. None exactly where `k` isn't below the length.
-    pub fn get(&self, k: usize) -> Option<&Op>
-        ensures { option_copied result ≡ slice_get self.now k }
-    {
-        self.items.get(k)
-    }
-
-    pub(crate) fn items(&self) -> &[Op]
-        ensures { result.now ≡ self.now }
-    {
-        self.items.as_slice()
-    }
+pub struct ItemList<T> {
+    items: Vec<T>,
 }
 
 /// A list of instructions. The instructions of one hart stand in program order.
-#[derive(Drop)]
-pub struct InsnList {
-    items: Vec<Retired>,
-}
+pub type InsnList = ItemList<Retired>;
 
-impl Model for InsnList {
+/// A list of operations, in no order of its own.
+pub type OpList = ItemList<Op>;
+
+impl<T> Model for ItemList<T> {
     ghost use Rattle.std.specs.Prelude.{List};
-    ghost use Rattle.rvwmo_model.specs.declared.instructions.Retired.{Retired};
 
-    ghost Value = { List Retired };
+    ghost Value = { List T };
 
     ghost view = { λ list. list.items.items };
 }
 
-impl InsnList {
+impl<T: Copy> ItemList<T> {
     /// The empty list.
-    pub fn new(alloc: Global) -> InsnList
+    pub fn new(alloc: Global) -> ItemList<T>
         ensures { result ≡ [] }
     {
-        InsnList {
+        ItemList {
             items: Vec::new(alloc),
         }
     }
 
-    /// Puts an instruction at the end. Without memory for it the list stays as it is.
-    pub fn push(&mut self, item: Retired) -> Result<(), AllocError>
+    /// Puts an item at the end. Without memory for it the list stays as it is.
+    pub fn push(&mut self, item: T) -> Result<(), AllocError>
         ensures { MatchResult result (λ _. self.new ≡ self.old ++ item ∷ []) (λ _. self.new ≡ self.old) }
     {
         self.items.push(item)?;
@@ -101,14 +53,15 @@ impl InsnList {
         self.items.len()
     }
 
-    /// Instruction `k`, counted from 0. None exactly where `k` isn't below the length.
-    pub fn get(&self, k: usize) -> Option<&Retired>
+    /// Item `k`, counted from 0. None exactly where `k` isn't below the length.
+    pub fn get(&self, k: usize) -> Option<&T>
         ensures { option_copied result ≡ slice_get self.now k }
     {
         self.items.get(k)
     }
 
-    pub(crate) fn items(&self) -> &[Retired]
+    /// All of them.
+    pub(crate) fn items(&self) -> &[T]
         ensures { result.now ≡ self.now }
     {
         self.items.as_slice()

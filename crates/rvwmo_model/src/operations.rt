@@ -1,51 +1,64 @@
 //! Memory operations.
+
 ghost use Rattle.std.specs.Prelude.{◌≡◌, slice_index};
-ghost use Rattle.rvwmo_model.specs.Order;
 
 use tandem_base::{Bytes8, Extent, OpName, Place};
 
 /// Whether an operation loads, stores, or is a load and a store at once, as that of an AMO is.
 #[derive(Clone, Copy, Debug, PartialEq, Eq)]
 pub enum OpKind {
+    /// It loads.
     Load,
+
+    /// It stores.
     Store,
+
+    /// It loads and stores at once.
     Both,
 }
 
 /// The annotation of an operation as an acquire or as a release (section 14.1): none, RCpc or RCsc.
 #[derive(Clone, Copy, Debug, PartialEq, Eq)]
 pub enum Ann {
+    /// No annotation.
     None,
+
+    /// RCpc.
     Rcpc,
+
+    /// RCsc.
     Rcsc,
 }
 
 /// A memory operation: some of the bytes of one access of one instruction.
-///
-/// Bit k of `mask` is set where byte k of `extent` is one of the operation's. `got` has the bytes that
-/// it loaded and `put` those that it stored, each over the whole extent; bytes outside the mask, and
-/// the list of a kind that the operation doesn't have, are 0. `place` is None for the bytes of a store
-/// that were not performed yet.
 #[derive(Clone, Copy, Debug, PartialEq, Eq)]
 pub struct Op {
+    /// Hart and tag of its instruction, and the offset of its lowest byte.
     pub name: OpName,
-    pub kind: OpKind,
-    pub extent: Extent,
-    pub mask: u8,
-    pub got: Bytes8,
-    pub put: Bytes8,
-    pub acquire: Ann,
-    pub release: Ann,
-    pub place: Option<Place>,
-}
 
-#[tactic(auto, unfolding(crate::specs::Order::earlier))]
-fn place_before(a: &Place, b: &Place) -> bool
-    ensures { result ≡ Order.earlier (Order.place_rank a.now) (Order.place_rank b.now) }
-{
-    a.time < b.time
-        || a.time == b.time
-            && (a.message < b.message || a.message == b.message && a.insert < b.insert)
+    /// Whether it loads, stores, or both.
+    pub kind: OpKind,
+
+    /// The access.
+    pub extent: Extent,
+
+    /// Bit k is set where byte k of the extent is one of the operation's.
+    pub mask: u8,
+
+    /// The bytes that it loaded, over the whole extent: 0 outside the mask, and where it doesn't load.
+    pub got: Bytes8,
+
+    /// The bytes that it stored, over the whole extent: 0 outside the mask, and where it doesn't store.
+    pub put: Bytes8,
+
+    /// Its annotation as an acquire.
+    pub acquire: Ann,
+
+    /// Its annotation as a release.
+    pub release: Ann,
+
+    /// When it was performed; None for the bytes of a store that were not performed yet.
+    pub place: Option<Place>,
 }
 
 /// Byte `k` of a list, 0 past its end.
@@ -116,12 +129,12 @@ impl Op {
     }
 
     /// Whether this operation comes before another in the global order.
-    #[tactic(auto, unfolding(crate::specs::Order::earlier))]
+    #[tactic(auto, unfolding(crate::specs::Order::stands_before))]
     pub fn precedes(&self, other: &Op) -> bool
         ensures { result ≡ Order.precedes self.now other.now }
     {
         match (self.place, other.place) {
-            (Some(p), Some(q)) => place_before(&p, &q),
+            (Some(p), Some(q)) => p.is_before(&q),
             (Some(_p), None) => true,
             (None, Some(_q)) => false,
             (None, None) => self.name.hart < other.name.hart

@@ -1,4 +1,4 @@
-ghost use Rattle.std.specs.Prelude.{◌≡◌};
+//! The rules of preserved program order.
 
 /// The rules of preserved program order, as the manual numbers them (section 14.1).
 #[derive(Clone, Copy, Debug, PartialEq, Eq)]

@@ -1,6 +1,8 @@
 //! What is answered to a trace: the first of its offences, with the choices that are stated.
+
 ghost use Rattle.std.specs.Prelude.{◌≡◌, ◌&&◌, IfOk, is_some, None};
-ghost use Rattle.std.specs.List.{filter};
+ghost use Rattle.std.specs.List.{filter, list_any};
+ghost use Rattle.tandem_base.specs.FirstFault.{◌or_else◌};
 ghost use Rattle.rvwmo_model.specs.Answer;
 ghost use Rattle.rvwmo_model.specs.Report;
 ghost use Rattle.rvwmo_model.specs.Search;
@@ -19,7 +21,7 @@ use crate::preserved::Rule;
 use crate::traces::Trace;
 use std::alloc::{AllocError, Global};
 
-#[tactic(auto, unfolding(crate::specs::Order::earlier))]
+#[tactic(auto, unfolding(crate::specs::Order::named_before))]
 fn is_named_first(a: &Op, b: &Op) -> bool
     ensures { result ≡ Answer.is_named_first a.now b.now }
 {
@@ -68,8 +70,8 @@ pub fn pair_answer(t: &Trace) -> Option<Judged>
 
 // ---- value
 
-fn given<I: InitialBytes>(image: &I, source: &Option<Op>, x: u64) -> u8
-    ensures { result ≡ Sources.given (I.initial_of image.now) source.now x }
+fn byte_from<I: InitialBytes>(image: &I, source: &Option<Op>, x: u64) -> u8
+    ensures { result ≡ Sources.byte_from (I.initial_of image.now) source.now x }
 {
     match source {
         None => image.initial(x),
@@ -80,7 +82,7 @@ fn given<I: InitialBytes>(image: &I, source: &Option<Op>, x: u64) -> u8
 fn is_wrong<I: InitialBytes>(image: &I, t: &Trace, i: &Op, x: u64) -> bool
     ensures { result ≡ Tests.is_wrong (I.initial_of image.now) t.now i.now x }
 {
-    i.reads(x) && i.got_at(x) != given(image, &source(t, i, x), x)
+    i.reads(x) && i.got_at(x) != byte_from(image, &source(t, i, x), x)
 }
 
 #[tactic(auto, unfolding(crate::specs::Search::first_at))]
@@ -115,7 +117,7 @@ fn value_at<I: InitialBytes>(image: &I, t: &Trace, i: &Op, byte: Option<u64>) ->
         Some(x) => Some(Judged::Value {
             name: i.name,
             at: x,
-            want: given(image, &source(t, i, x), x),
+            want: byte_from(image, &source(t, i, x), x),
             got: i.got_at(x),
         }),
     }
@@ -134,7 +136,7 @@ pub fn value_answer<I: InitialBytes>(image: &I, t: &Trace) -> Option<Judged>
 // ---- order
 
 fn some_first(alloc: Global, rule: Rule, t: &Trace, ops: &[Op], b: &Op) -> Result<bool, AllocError>
-    ensures { IfOk result (λ found. found ≡ Search.some_of (λ a. Tests.is_broken rule t.now a b.now) ops.now) }
+    ensures { IfOk result (λ found. found ≡ list_any (λ a. Tests.is_broken rule t.now a b.now) ops.now) }
 {
     for a in ops {
         if is_broken(alloc, rule, t, a, b)? {
@@ -158,7 +160,8 @@ fn latest_first(
     ops: &[Op],
     b: &Op,
 ) -> Result<Option<Op>, AllocError>
-    ensures { IfOk result (λ first. first ≡ Sources.latest_from None (filter (λ a. Tests.is_broken rule t.now a b.now) ops.now)) }
+    ensures { IfOk result (λ first. first
+        ≡ Sources.latest_from None (filter (λ a. Tests.is_broken rule t.now a b.now) ops.now)) }
 {
     let mut best = None;
     for a in ops {
@@ -267,7 +270,7 @@ fn least_lr(t: &Trace, ops: &[Op], w: &Op) -> Option<Op>
 }
 
 fn some_lr(t: &Trace, ops: &[Op], w: &Op) -> bool
-    ensures { result ≡ Search.some_of (λ r. Tests.is_torn t.now r w.now) ops.now }
+    ensures { result ≡ list_any (λ r. Tests.is_torn t.now r w.now) ops.now }
 {
     for r in ops {
         if is_torn(t, r, w) {
@@ -329,7 +332,8 @@ fn block_at(w: &Op, s: &Op, byte: Option<u64>) -> Option<Judged>
 }
 
 fn block_of(t: &Trace, r: &Op, w: &Op) -> Option<Judged>
-    ensures { result ≡ Answer.block_of t.now r.now w.now (Tests.latest_everywhere (Tests.intrudes_block t.now r.now w.now) t.now) }
+    ensures { result ≡ Answer.block_of t.now r.now w.now
+        (Tests.latest_everywhere (Tests.intrudes_block t.now r.now w.now) t.now) }
 {
     match latest_intruder(t, r, w) {
         None => None,
@@ -367,15 +371,6 @@ pub fn atomicity_answer(t: &Trace) -> Option<Judged>
 
 // ---- the answer
 
-fn or_else(answer: Option<Judged>, other: Option<Judged>) -> Option<Judged>
-    ensures { result ≡ Search.or_else answer other }
-{
-    match answer {
-        None => other,
-        Some(j) => Some(j),
-    }
-}
-
 fn legal_unless(answer: Option<Judged>) -> Judged
     ensures { result ≡ Answer.legal_unless answer }
 {
@@ -386,10 +381,12 @@ fn legal_unless(answer: Option<Judged>) -> Judged
 }
 
 fn order_or_atomicity(alloc: Global, t: &Trace) -> Result<Option<Judged>, AllocError>
-    ensures { IfOk result (λ answer. answer ≡ Search.or_else (Answer.order_answer t.now) (Answer.atomicity_answer t.now)) }
+    ensures { IfOk result (λ answer. answer ≡ (Answer.order_answer t.now or_else Answer.atomicity_answer t.now)) }
 {
-    let order = order_answer(alloc, t)?;
-    Ok(or_else(order, atomicity_answer(t)))
+    match order_answer(alloc, t)? {
+        None => Ok(atomicity_answer(t)),
+        Some(j) => Ok(Some(j)),
+    }
 }
 
 fn value_or_later<I: InitialBytes>(
@@ -397,7 +394,9 @@ fn value_or_later<I: InitialBytes>(
     image: &I,
     t: &Trace,
 ) -> Result<Option<Judged>, AllocError>
-    ensures { IfOk result (λ answer. answer ≡ Search.or_else (Answer.value_answer (I.initial_of image.now) t.now) (Search.or_else (Answer.order_answer t.now) (Answer.atomicity_answer t.now))) }
+    ensures { IfOk result (λ answer. answer
+        ≡ (Answer.value_answer (I.initial_of image.now) t.now
+        or_else (Answer.order_answer t.now or_else Answer.atomicity_answer t.now))) }
 {
     match value_answer(image, t) {
         None => order_or_atomicity(alloc, t),

@@ -1,8 +1,9 @@
 //! Pairs of an LR and an SC, and whether they are atomic.
+
 ghost use Rattle.std.specs.Prelude.{◌≡◌, ◌&&◌, ◌||◌, not, None};
-ghost use Rattle.std.specs.List.{filter};
+ghost use Rattle.std.specs.List.{filter, list_any};
 ghost use Rattle.rvwmo_model.specs.Answer;
-ghost use Rattle.rvwmo_model.specs.Atomicity;
+ghost use Rattle.rvwmo_model.specs.InsnKinds;
 ghost use Rattle.rvwmo_model.specs.Search;
 ghost use Rattle.rvwmo_model.specs.Sources;
 ghost use Rattle.rvwmo_model.specs.Tests;
@@ -24,7 +25,7 @@ pub fn or_address(found: Option<u64>, passes: bool, x: u64) -> Option<u64>
 }
 
 fn has_stored(insn: Option<Retired>) -> bool
-    ensures { result ≡ Atomicity.has_stored insn }
+    ensures { result ≡ InsnKinds.has_stored insn }
 {
     match insn {
         None => false,
@@ -35,7 +36,10 @@ fn has_stored(insn: Option<Retired>) -> bool
 fn is_pair(t: &Trace, r: &Op, w: &Op) -> bool
     ensures { result ≡ Tests.is_pair t.now r.now w.now }
 {
-    w.name.hart == r.name.hart && is_pair_of(t, r, w) && has_stored(insn_of(t, w))
+    w.name.hart == r.name.hart
+        && r.name.tag < w.name.tag
+        && is_pair_of(t, r, w)
+        && has_stored(insn_of(t, w))
 }
 
 #[tactic(auto, unfolding(crate::specs::Search::some_at))]
@@ -51,7 +55,7 @@ fn is_outside(w: &Op, r: &Op) -> bool
 }
 
 fn has_pair(t: &Trace, ops: &[Op], w: &Op) -> bool
-    ensures { result ≡ Search.some_of (λ r. Tests.is_pair t.now r w.now && Tests.is_within w.now r) ops.now }
+    ensures { result ≡ list_any (λ r. Tests.is_pair t.now r w.now && Tests.is_within w.now r) ops.now }
 {
     for r in ops {
         if is_pair(t, r, w) && !is_outside(w, r) {
@@ -93,7 +97,7 @@ fn is_late(source: &Option<Op>, w: &Op) -> bool
 }
 
 fn some_intrudes(list: &[Op], source: &Option<Op>, w: &Op, x: u64) -> bool
-    ensures { result ≡ Search.some_of (Tests.intrudes source.now w.now x) list.now }
+    ensures { result ≡ list_any (Tests.intrudes source.now w.now x) list.now }
 {
     for v in list {
         if v.writes(x) && is_other_before(w, v) && is_after(source, v) {
@@ -104,7 +108,8 @@ fn some_intrudes(list: &[Op], source: &Option<Op>, w: &Op, x: u64) -> bool
 }
 
 fn is_torn_from(t: &Trace, source: &Option<Op>, w: &Op, x: u64) -> bool
-    ensures { result ≡ (Tests.is_late source.now w.now || Tests.some_everywhere (Tests.intrudes source.now w.now x) t.now) }
+    ensures { result ≡ (Tests.is_late source.now w.now
+        || Tests.some_everywhere (Tests.intrudes source.now w.now x) t.now) }
 {
     is_late(source, w)
         || some_intrudes(t.ops.items(), source, w, x)
@@ -157,7 +162,7 @@ fn intrudes_block(t: &Trace, r: &Op, w: &Op, v: &Op) -> bool
 }
 
 fn some_intrudes_block(t: &Trace, list: &[Op], r: &Op, w: &Op) -> bool
-    ensures { result ≡ Search.some_of (Tests.intrudes_block t.now r.now w.now) list.now }
+    ensures { result ≡ list_any (Tests.intrudes_block t.now r.now w.now) list.now }
 {
     for v in list {
         if intrudes_block(t, r, w, v) {

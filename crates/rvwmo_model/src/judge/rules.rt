@@ -1,14 +1,16 @@
 //! The thirteen rules of preserved program order, each as a test of two operations of one hart.
+
 ghost use Rattle.std.specs.Prelude.{◌≡◌, ◌<◌, ◌&&◌, ◌||◌, IfOk};
+ghost use Rattle.std.specs.List.{list_any};
 ghost use Rattle.rvwmo_model.specs.Order;
 ghost use Rattle.rvwmo_model.specs.ProgramOrder;
 ghost use Rattle.rvwmo_model.specs.Sources;
 ghost use Rattle.rvwmo_model.specs.declared.judge.walk.Use.TheVariants.{Address, Data};
-ghost use Rattle.rvwmo_model.specs.Rules;
-ghost use Rattle.rvwmo_model.specs.Search.{some_of};
+ghost use Rattle.rvwmo_model.specs.Annotations;
+ghost use Rattle.rvwmo_model.specs.InsnKinds;
 ghost use Rattle.rvwmo_model.specs.Tests;
 
-use super::sources::{insn_at, insn_of, key_of, origin, same_origin};
+use super::sources::{insn_of, is_operation, origin, same_origin, source};
 use super::walk::{Search, Use, finds};
 use crate::instructions::Retired;
 use crate::operations::{Ann, Op, OpKind};
@@ -16,7 +18,6 @@ use crate::preserved::Rule;
 use crate::traces::Trace;
 use rv_decode::Insn;
 use std::alloc::{AllocError, Global};
-use tandem_base::Origin;
 
 fn is_between(a: &Op, b: &Op, hart: u8, tag: u64) -> bool
     ensures { result ≡ Tests.is_between a.now b.now hart tag }
@@ -37,7 +38,7 @@ fn overlap(a: &Op, b: &Op) -> bool
 }
 
 fn some_store_between(ops: &[Op], a: &Op, b: &Op, x: u64) -> bool
-    ensures { result ≡ some_of (Tests.store_between a.now b.now x) ops.now }
+    ensures { result ≡ list_any (Tests.store_between a.now b.now x) ops.now }
 {
     for o in ops {
         if is_between(a, b, o.name.hart, o.name.tag) && o.writes(x) {
@@ -52,8 +53,8 @@ fn read_apart_at(t: &Trace, a: &Op, b: &Op, x: u64) -> bool
 {
     a.reads(x)
         && b.reads(x)
-        && !same_origin(origin(t, a, x), origin(t, b, x))
         && !some_store_between(t.ops.items(), a, b, x)
+        && !same_origin(origin(t, a, x), origin(t, b, x))
 }
 
 #[tactic(auto, unfolding(crate::specs::Search::some_at))]
@@ -69,7 +70,7 @@ fn read_apart(t: &Trace, a: &Op, b: &Op) -> bool
 }
 
 fn is_amo_or_sc(insn: Option<Retired>) -> bool
-    ensures { result ≡ ProgramOrder.is_one Rules.is_amo_or_sc insn }
+    ensures { result ≡ ProgramOrder.is_one InsnKinds.is_amo_or_sc insn }
 {
     match insn {
         None => false,
@@ -77,14 +78,24 @@ fn is_amo_or_sc(insn: Option<Retired>) -> bool
     }
 }
 
+/// Whether the source is an operation of the instruction of a hart under a tag.
+fn is_store_of(t: &Trace, hart: u8, tag: u64, source: &Option<Op>) -> bool
+    ensures { result ≡ Tests.is_store_of t.now hart tag source.now }
+{
+    match source {
+        None => false,
+        Some(s) => s.name.hart == hart && s.name.tag == tag && is_operation(t.ops.items(), s),
+    }
+}
+
 #[tactic(auto, unfolding(crate::specs::Search::some_at))]
-fn reads_from(t: &Trace, b: &Op, key: Origin) -> bool
-    ensures { result ≡ Tests.reads_from t.now b.now key }
+fn reads_from(t: &Trace, b: &Op, hart: u8, tag: u64) -> bool
+    ensures { result ≡ Tests.reads_from t.now b.now hart tag }
 {
     let mut found = false;
     for j in 0..b.extent.len {
         let x = b.extent.addr + u64::from(j);
-        found = found || b.reads(x) && same_origin(origin(t, b, x), Some(key));
+        found = found || b.reads(x) && is_store_of(t, hart, tag, &source(t, b, x));
     }
     found
 }
@@ -92,24 +103,24 @@ fn reads_from(t: &Trace, b: &Op, key: Origin) -> bool
 fn reads_atomic(t: &Trace, a: &Op, b: &Op) -> bool
     ensures { result ≡ Tests.reads_atomic t.now a.now b.now }
 {
-    is_amo_or_sc(insn_of(t, a)) && reads_from(t, b, key_of(a))
+    is_amo_or_sc(insn_of(t, a)) && reads_from(t, b, a.name.hart, a.name.tag)
 }
 
-fn names(set: u8, kind: OpKind) -> bool
-    ensures { result ≡ Rules.names set kind }
+fn in_set(set: u8, kind: OpKind) -> bool
+    ensures { result ≡ InsnKinds.in_set set kind }
 {
     set / 2 % 2 == 1 && kind.loads() || set % 2 == 1 && kind.stores()
 }
 
 fn fence_orders(insn: &Insn, a: OpKind, b: OpKind) -> bool
-    ensures { result ≡ Rules.fence_orders insn.now a b }
+    ensures { result ≡ InsnKinds.fence_orders insn.now a b }
 {
     match *insn {
         Insn::Fence { fm, pred, succ, .. } => {
             if fm == 8 && pred == 3 && succ == 3 {
                 a.loads() || a.stores() && b.stores()
             } else {
-                names(pred, a) && names(succ, b)
+                in_set(pred, a) && in_set(succ, b)
             }
         }
         _ => false,
@@ -117,7 +128,7 @@ fn fence_orders(insn: &Insn, a: OpKind, b: OpKind) -> bool
 }
 
 fn fenced(insns: &[Retired], a: &Op, b: &Op) -> bool
-    ensures { result ≡ some_of (Tests.fence_at a.now b.now) insns.now }
+    ensures { result ≡ list_any (Tests.fence_at a.now b.now) insns.now }
 {
     for w in insns {
         if is_between(a, b, w.hart, w.tag) && fence_orders(&w.insn, a.kind, b.kind) {
@@ -128,7 +139,7 @@ fn fenced(insns: &[Retired], a: &Op, b: &Op) -> bool
 }
 
 fn is_annotated(ann: Ann) -> bool
-    ensures { result ≡ Rules.is_annotated ann }
+    ensures { result ≡ Annotations.is_annotated ann }
 {
     match ann {
         Ann::None => false,
@@ -138,7 +149,7 @@ fn is_annotated(ann: Ann) -> bool
 }
 
 fn is_rcsc(ann: Ann) -> bool
-    ensures { result ≡ Rules.is_rcsc ann }
+    ensures { result ≡ Annotations.is_rcsc ann }
 {
     match ann {
         Ann::None => false,
@@ -147,14 +158,14 @@ fn is_rcsc(ann: Ann) -> bool
     }
 }
 
-fn both_rcsc(a: &Op, b: &Op) -> bool
-    ensures { result ≡ Tests.both_rcsc a.now b.now }
+fn has_rcsc(o: &Op) -> bool
+    ensures { result ≡ Annotations.has_rcsc o.now }
 {
-    (is_rcsc(a.acquire) || is_rcsc(a.release)) && (is_rcsc(b.acquire) || is_rcsc(b.release))
+    is_rcsc(o.acquire) || is_rcsc(o.release)
 }
 
 fn is_lr(insn: &Insn) -> bool
-    ensures { result ≡ Rules.is_lr insn.now }
+    ensures { result ≡ InsnKinds.is_lr insn.now }
 {
     match *insn {
         Insn::Lr { .. } => true,
@@ -164,7 +175,7 @@ fn is_lr(insn: &Insn) -> bool
 
 /// Whether it is an SC.
 pub fn is_sc(insn: &Insn) -> bool
-    ensures { result ≡ Rules.is_sc insn.now }
+    ensures { result ≡ InsnKinds.is_sc insn.now }
 {
     match *insn {
         Insn::Sc { .. } => true,
@@ -173,7 +184,7 @@ pub fn is_sc(insn: &Insn) -> bool
 }
 
 fn found_lr(insn: Option<Retired>) -> bool
-    ensures { result ≡ ProgramOrder.is_one Rules.is_lr insn }
+    ensures { result ≡ ProgramOrder.is_one InsnKinds.is_lr insn }
 {
     match insn {
         None => false,
@@ -182,7 +193,7 @@ fn found_lr(insn: Option<Retired>) -> bool
 }
 
 fn found_sc(insn: Option<Retired>) -> bool
-    ensures { result ≡ ProgramOrder.is_one Rules.is_sc insn }
+    ensures { result ≡ ProgramOrder.is_one InsnKinds.is_sc insn }
 {
     match insn {
         None => false,
@@ -191,7 +202,7 @@ fn found_sc(insn: Option<Retired>) -> bool
 }
 
 fn some_parts_pair(insns: &[Retired], a: &Op, b: &Op) -> bool
-    ensures { result ≡ some_of (Tests.parts_pair a.now b.now) insns.now }
+    ensures { result ≡ list_any (Tests.parts_pair a.now b.now) insns.now }
 {
     for w in insns {
         if is_between(a, b, w.hart, w.tag) && (is_lr(&w.insn) || is_sc(&w.insn)) {
@@ -205,10 +216,7 @@ fn some_parts_pair(insns: &[Retired], a: &Op, b: &Op) -> bool
 pub fn is_pair_of(t: &Trace, a: &Op, b: &Op) -> bool
     ensures { result ≡ Tests.is_pair_of t.now a.now b.now }
 {
-    a.name.tag < b.name.tag
-        && found_lr(insn_of(t, a))
-        && found_sc(insn_at(t.insns.items(), a.name.hart, b.name.tag))
-        && !some_parts_pair(t.insns.items(), a, b)
+    found_lr(insn_of(t, a)) && found_sc(insn_of(t, b)) && !some_parts_pair(t.insns.items(), a, b)
 }
 
 fn depends_at(alloc: Global, by: Use, t: &Trace, a: &Op, tag: u64) -> Result<bool, AllocError>
@@ -251,7 +259,8 @@ fn stores_after(alloc: Global, by: Use, t: &Trace, a: &Op, b: &Op) -> Result<boo
 }
 
 fn depends_by_both(alloc: Global, t: &Trace, a: &Op, tag: u64) -> Result<bool, AllocError>
-    ensures { IfOk result (λ found. found ≡ (Tests.depends_at Address t.now a.now tag || Tests.depends_at Data t.now a.now tag)) }
+    ensures { IfOk result (λ found. found
+        ≡ (Tests.depends_at Address t.now a.now tag || Tests.depends_at Data t.now a.now tag)) }
 {
     if depends_at(alloc, Use::Address, t, a, tag)? {
         return Ok(true);
@@ -264,15 +273,15 @@ fn is_dependent(
     t: &Trace,
     a: &Op,
     b: &Op,
-    m: Option<Origin>,
+    m: &Option<Op>,
 ) -> Result<bool, AllocError>
-    ensures { IfOk result (λ found. found ≡ Tests.is_dependent t.now a.now b.now m) }
+    ensures { IfOk result (λ found. found ≡ Tests.is_dependent t.now a.now b.now m.now) }
 {
     match m {
         None => Ok(false),
-        Some(key) => {
-            if is_between(a, b, key.hart, key.tag) {
-                depends_by_both(alloc, t, a, key.tag)
+        Some(s) => {
+            if is_between(a, b, s.name.hart, s.name.tag) && is_operation(t.ops.items(), s) {
+                depends_by_both(alloc, t, a, s.name.tag)
             } else {
                 Ok(false)
             }
@@ -281,10 +290,11 @@ fn is_dependent(
 }
 
 fn reads_dependent_at(alloc: Global, t: &Trace, a: &Op, b: &Op, x: u64) -> Result<bool, AllocError>
-    ensures { IfOk result (λ found. found ≡ (Order.reads x b.now && Tests.is_dependent t.now a.now b.now (Sources.origin t.now b.now x))) }
+    ensures { IfOk result (λ found. found
+        ≡ (Order.reads x b.now && Tests.is_dependent t.now a.now b.now (Sources.source t.now b.now x))) }
 {
     if b.reads(x) {
-        is_dependent(alloc, t, a, b, origin(t, b, x))
+        is_dependent(alloc, t, a, b, &source(t, b, x))
     } else {
         Ok(false)
     }
@@ -314,7 +324,7 @@ fn holds(alloc: Global, rule: Rule, t: &Trace, a: &Op, b: &Op) -> Result<bool, A
         Rule::R4 => Ok(fenced(t.insns.items(), a, b)),
         Rule::R5 => Ok(is_annotated(a.acquire)),
         Rule::R6 => Ok(is_annotated(b.release)),
-        Rule::R7 => Ok(both_rcsc(a, b)),
+        Rule::R7 => Ok(has_rcsc(a) && has_rcsc(b)),
         Rule::R8 => Ok(is_pair_of(t, a, b)),
         Rule::R9 => depends_at(alloc, Use::Address, t, a, b.name.tag),
         Rule::R10 => depends_at(alloc, Use::Data, t, a, b.name.tag),

@@ -1,6 +1,7 @@
 //! Where a loaded byte comes from.
+
 ghost use Rattle.std.specs.Prelude.{◌≡◌, ◌&&◌, ◌||◌, None, Some, if◌then◌else◌};
-ghost use Rattle.std.specs.List.{filter};
+ghost use Rattle.std.specs.List.{filter, list_any};
 ghost use Rattle.rvwmo_model.specs.Order;
 ghost use Rattle.rvwmo_model.specs.ProgramOrder;
 ghost use Rattle.rvwmo_model.specs.Sources;
@@ -50,7 +51,8 @@ pub fn keep_later(best: &mut Option<Op>, w: &Op)
 }
 
 fn latest_retired(ops: &[Op], i: &Op, x: u64) -> Option<Op>
-    ensures { result ≡ Sources.latest_from None (filter (λ w. Order.writes x w && (Order.precedes w i.now || ProgramOrder.is_older w i.now)) ops.now) }
+    ensures { result ≡ Sources.latest_from None
+        (filter (λ w. Order.writes x w && (Order.precedes w i.now || ProgramOrder.is_older w i.now)) ops.now) }
 {
     let mut best = None;
     for w in ops {
@@ -79,6 +81,24 @@ pub fn source(t: &Trace, i: &Op, x: u64) -> Option<Op>
     ensures { result ≡ Sources.source t.now i.now x }
 {
     latest_early(latest_retired(t.ops.items(), i, x), t.early.items(), i, x)
+}
+
+fn stands_with(s: &Op, o: &Op) -> bool
+    ensures { result ≡ Tests.stands_with s.now o.now }
+{
+    !o.precedes(s) && !s.precedes(o)
+}
+
+/// Whether a store is one of the operations, and no early store.
+pub fn is_operation(ops: &[Op], s: &Op) -> bool
+    ensures { result ≡ list_any (Tests.stands_with s.now) ops.now }
+{
+    for o in ops {
+        if stands_with(s, o) {
+            return true;
+        }
+    }
+    false
 }
 
 /// The hart and tag of an operation.

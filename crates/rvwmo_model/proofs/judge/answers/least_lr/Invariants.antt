@@ -6,4 +6,5 @@ use Rattle.rvwmo_model.specs.Tests.{is_torn}
 use Rattle.rvwmo_model.proofs.judge.answers.least_lr.Given as goal
 
 abbrev pub invariant-loop-r : goal.invariant-loop-r
-invariant-loop-r l = best_from is_named_first None (filter (λ r. is_torn l.t r l.w) l.ops) ≡ best_from is_named_first l.best (filter (λ r. is_torn l.t r l.w) (drop l.r-index l.ops))
+invariant-loop-r l = best_from is_named_first None (filter (λ r. is_torn l.t r l.w) l.ops) ≡ best_from is_named_first
+    l.best (filter (λ r. is_torn l.t r l.w) (drop l.r-index l.ops))

@@ -5,4 +5,5 @@ use Rattle.rvwmo_model.specs.Search.{best_from}
 use Rattle.rvwmo_model.proofs.judge.answers.least_sc.Given as goal
 
 abbrev pub invariant-loop-w : goal.invariant-loop-w
-invariant-loop-w l = best_from is_named_first None (filter (has_torn l.t) l.ops) ≡ best_from is_named_first l.best (filter (has_torn l.t) (drop l.w-index l.ops))
+invariant-loop-w l = best_from is_named_first None (filter (has_torn l.t) l.ops) ≡ best_from is_named_first l.best
+    (filter (has_torn l.t) (drop l.w-index l.ops))

@@ -1,7 +1,8 @@
 use Rattle.std.proofs.Common.{◌≡◌, ◌&&◌, drop}
-use Rattle.rvwmo_model.specs.Search.{some_of}
 use Rattle.rvwmo_model.specs.Tests.{is_pair, is_within}
 use Rattle.rvwmo_model.proofs.judge.atomic.has_pair.Given as goal
+use Rattle.std.specs.List.{list_any}
 
 abbrev pub invariant-loop-r : goal.invariant-loop-r
-invariant-loop-r l = some_of (λ r. is_pair l.t r l.w && is_within l.w r) l.ops ≡ some_of (λ r. is_pair l.t r l.w && is_within l.w r) (drop l.r-index l.ops)
+invariant-loop-r l = list_any (λ r. is_pair l.t r l.w && is_within l.w r) l.ops ≡ list_any
+    (λ r. is_pair l.t r l.w && is_within l.w r) (drop l.r-index l.ops)

@@ -5,4 +5,5 @@ use Rattle.rvwmo_model.specs.Tests.{intrudes_block}
 use Rattle.rvwmo_model.proofs.judge.atomic.latest_in_block.Given as goal
 
 abbrev pub invariant-loop-v : goal.invariant-loop-v
-invariant-loop-v l = latest_from l.fn.start (filter (intrudes_block l.t l.r l.w) l.list) ≡ latest_from l.best (filter (intrudes_block l.t l.r l.w) (drop l.v-index l.list))
+invariant-loop-v l = latest_from l.fn.start (filter (intrudes_block l.t l.r l.w) l.list) ≡ latest_from l.best
+    (filter (intrudes_block l.t l.r l.w) (drop l.v-index l.list))

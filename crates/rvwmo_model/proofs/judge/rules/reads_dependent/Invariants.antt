@@ -1,9 +1,10 @@
 use Rattle.std.proofs.Common.{◌≡◌, ◌&&◌}
 use Rattle.rvwmo_model.specs.Order.{reads}
-use Rattle.rvwmo_model.specs.Sources.{origin}
+use Rattle.rvwmo_model.specs.Sources.{source}
 use Rattle.rvwmo_model.specs.Tests.{is_dependent}
 use Rattle.rvwmo_model.specs.Search.{some_at}
 use Rattle.rvwmo_model.proofs.judge.rules.reads_dependent.Given as goal
 
 abbrev pub invariant-loop-j : goal.invariant-loop-j
-invariant-loop-j l = l.found ≡ some_at (λ x. reads x l.b && is_dependent l.t l.a l.b (origin l.t l.b x)) l.b.extent.addr l.j
+invariant-loop-j l = l.found ≡ some_at (λ x. reads x l.b && is_dependent l.t l.a l.b (source l.t l.b x))
+    l.b.extent.addr l.j

@@ -6,4 +6,5 @@ use Rattle.rvwmo_model.proofs.judge.sources.latest_early.Given as goal
 
 abbrev pub invariant-loop-w : goal.invariant-loop-w
 invariant-loop-w l =
-    latest_from l.fn.start (filter (λ w. writes l.x w && precedes w l.i) l.early) ≡ latest_from l.best (filter (λ w. writes l.x w && precedes w l.i) (drop l.w-index l.early))
+    latest_from l.fn.start (filter (λ w. writes l.x w && precedes w l.i) l.early) ≡ latest_from l.best
+    (filter (λ w. writes l.x w && precedes w l.i) (drop l.w-index l.early))

@@ -7,4 +7,5 @@ use Rattle.rvwmo_model.proofs.judge.sources.latest_retired.Given as goal
 
 abbrev pub invariant-loop-w : goal.invariant-loop-w
 invariant-loop-w l =
-    latest_from None (filter (λ w. writes l.x w && (precedes w l.i || is_older w l.i)) l.ops) ≡ latest_from l.best (filter (λ w. writes l.x w && (precedes w l.i || is_older w l.i)) (drop l.w-index l.ops))
+    latest_from None (filter (λ w. writes l.x w && (precedes w l.i || is_older w l.i)) l.ops) ≡ latest_from l.best
+    (filter (λ w. writes l.x w && (precedes w l.i || is_older w l.i)) (drop l.w-index l.ops))

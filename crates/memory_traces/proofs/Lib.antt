@@ -1,0 +1,5 @@
+pub mod Example
+pub mod ExampleInsns
+pub mod ExamplePair
+pub mod Formed
+pub mod Occurring
