@@ -60,6 +60,13 @@ impl Bytes8 {
         self.bytes[k as usize]
     }
 
+    /// The bytes, lowest address first.
+    pub fn as_slice(&self) -> &[u8]
+        ensures { result.now ≡ self.now }
+    {
+        &self.bytes[..self.len as usize]
+    }
+
     /// The number that the bytes are, lowest byte first.
     pub fn number(&self) -> u64
         ensures { result ≡ little_endian self.now }
