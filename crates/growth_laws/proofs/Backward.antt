@@ -85,8 +85,7 @@ module _ (t t' : Trace) (k : WellKinded t) (k' : WellKinded t') (go : (x : ℕ) 
         | inr c ↦ inr c
         | inl e ↦ elim (origin_back b h.0 hb h.2) [
           | inr c ↦ inr c
-          | inl f ↦ inl
-              (h.0, h.1, h.2, (λ s. h.3 (store_goes a b h.0 s)), λ q. h.4 (sym e ∙ q ∙ f))
+          | inl f ↦ inl (h.0, h.1, h.2, (λ s. h.3 (store_goes a b h.0 s)), λ q. h.4 (sym e ∙ q ∙ f))
         ]
       ]
       at R3 h = elim (origin_back b h.1.0 hb h.1.2) [
@@ -112,10 +111,8 @@ module _ (t t' : Trace) (k : WellKinded t) (k' : WellKinded t') (go : (x : ℕ) 
         | inl f ↦
             let d : AddressOn t a h.0 ⊎ DataOn t a h.0 =
             elim h.3.0 [
-              | inl d ↦ inl
-                  (address_on t' t a.name.hart b.name.tag still h.0 a.name.tag (inl h.2) d)
-              | inr d ↦ inr
-                  (data_on t' t a.name.hart b.name.tag still h.0 a.name.tag (inl h.2) d)
+              | inl d ↦ inl (address_on t' t a.name.hart b.name.tag still h.0 a.name.tag (inl h.2) d)
+              | inr d ↦ inr (data_on t' t a.name.hart b.name.tag still h.0 a.name.tag (inl h.2) d)
             ] in
             inl (h.0, h.1, h.2, (d, reads_dependent_still t' t a b h.0 k d h.3.1 f))
       ]
@@ -128,27 +125,25 @@ module _ (t t' : Trace) (k : WellKinded t) (k' : WellKinded t') (go : (x : ℕ) 
   pub broken_back : (r : Rule) (a b : Op) → Contains t.ops a → Contains t.ops b → Broken r t' a b → Broken r t a b ⊎ Q
   broken_back r a b ha hb p = elim (holds_back r a b ha hb p.one_hart p.in_order p.rule) [
     | inr c ↦ inr c
-    | inl h ↦ inl
-        (record {
-          first_in = ha;
-          second_in = hb;
-          one_hart = p.one_hart;
-          in_order = p.in_order;
-          rule = h;
-          against = p.against;
-        })
+    | inl h ↦ inl (record {
+      first_in = ha;
+      second_in = hb;
+      one_hart = p.one_hart;
+      in_order = p.in_order;
+      rule = h;
+      against = p.against;
+    })
   ]
 
   pub value_back : (initial : ℕ → ℕ) (i : Op) (x : ℕ) → Contains t.ops i → WrongValue initial t' i x
       → WrongValue initial t i x ⊎ Q
   value_back initial i x hi v = elim (same i x hi v.loads) [
     | inr c ↦ inr c
-    | inl h ↦ inl
-        (record {
-          load_in = hi;
-          loads = v.loads;
-          wrong = λ e. v.wrong (e ∙ sym (same_given initial t t' x (source t i x) (source t' i x) h));
-        })
+    | inl h ↦ inl (record {
+      load_in = hi;
+      loads = v.loads;
+      wrong = λ e. v.wrong (e ∙ sym (same_given initial t t' x (source t i x) (source t' i x) h));
+    })
   ]
 
   -- ---- atomicity
@@ -179,8 +174,7 @@ module _ (t t' : Trace) (k : WellKinded t) (k' : WellKinded t') (go : (x : ℕ) 
   store_back : (w n : Op) (x : ℕ) → Contains t.ops w → IsPlaced w → Contains (everything t') n → writes x n ≡ true
       → precedes n w ≡ true → (v : Op) × WasStore n v x
   store_back w n x hw pw h q b = elim ((go x).back n h q) [
-    | inr m ↦ absurd
-        (both_ways _ (before_asym (standing n) (standing w) b) (m.0 w (Contains-append_left t.ops t.early w hw) pw))
+    | inr m ↦ absurd (both_ways _ (before_asym (standing n) (standing w) b) (m.0 w (Contains-append_left t.ops t.early w hw) pw))
     | inl v ↦ elim (place_cases v.0) [
       | inl p ↦ (
         v.0,
@@ -194,8 +188,7 @@ module _ (t t' : Trace) (k : WellKinded t) (k' : WellKinded t') (go : (x : ℕ) 
       )
       | inr e ↦ elim v.1.becomes.place [
         | inl f ↦ absurd (not_both n (before_placed n w pw b) (f ∙ e))
-        | inr m ↦ absurd
-            (both_ways _ (before_asym (standing n) (standing w) b) (m.2 w (Contains-append_left t.ops t.early w hw) pw))
+        | inr m ↦ absurd (both_ways _ (before_asym (standing n) (standing w) b) (m.2 w (Contains-append_left t.ops t.early w hw) pw))
       ]
     ]
   ]
@@ -249,8 +242,7 @@ module _ (t t' : Trace) (k : WellKinded t) (k' : WellKinded t') (go : (x : ℕ) 
       let q = pair_back r w hr hw p.pair in
       elim p.torn [
         | inl x ↦ elim (torn_at_back r w x.0 hr hw q x.1) [
-          | inl h ↦ inl
-              (record { pair = q; torn = inl (x.0, h) })
+          | inl h ↦ inl (record { pair = q; torn = inl (x.0, h) })
           | inr c ↦ inr c
         ]
         | inr n ↦ inl (record { pair = q; torn = inr (block_back r w n.0 hw q n.1) })

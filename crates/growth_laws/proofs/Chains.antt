@@ -38,8 +38,7 @@ chain_origin _ _ i x (none t) h p q = inl refl
 chain_origin _ _ i x (then t u v c g) h p q = elim (chain_origin t u i x c h p q) [
   | inr b ↦ inr (overlap_on u v g.before g.after g.writers g.operations b)
   | inl e ↦ elim (origin_on u v g.before g.after g.writers g.operations i x (chain_stays t u i c h p) q) [
-    | inl f ↦ inl
-        (f ∙ e)
+    | inl f ↦ inl (f ∙ e)
     | inr b ↦ inr b
   ]
 ]

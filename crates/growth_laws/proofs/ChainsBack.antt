@@ -26,8 +26,7 @@ same_or_overlap u v g i x h q =
     let p = load_placed u i g.before h (and_parts (loads i) (covers x i) q).0 in
     elim (source_stays u v x i g.before g.after (g.writers x) h (g.operations.stays i h p) p) [
       | inl s ↦ inl s
-      | inr
-          c ↦ inr (has_overlap v x c.crossed)
+      | inr c ↦ inr (has_overlap v x c.crossed)
     ]
 
 overlap_goes : (u v : Trace) → Link u v → HasOverlap u → HasOverlap v
@@ -42,8 +41,7 @@ chain_broken_back _ _ r a b (then t u v c g) ha pa hb pb q =
       | inr z ↦ inr z
       | inl y ↦ elim (chain_broken_back t u r a b c ha pa hb pb y) [
         | inl w ↦ inl w
-        | inr z ↦ inr
-            (overlap_goes u v g z)
+        | inr z ↦ inr (overlap_goes u v g z)
       ]
     ]
 

@@ -27,16 +27,14 @@ module _ (initial : ℕ → ℕ) (t t' : Trace) (l : Link t t') (on : (v : Op) �
   pub old_unbroken : (r : Rule) (a b : Op) → Contains t.ops a → Contains t.ops b → Broken r t' a b → ⊥
   old_unbroken r a b ha hb p =
       elim (broken_back t t' l.before l.after l.writers l.operations ⊥ same_source r a b ha hb p) [
-        | inl
-            q ↦ legal.ordered r a b q
+        | inl q ↦ legal.ordered r a b q
         | inr c ↦ c
       ]
 
   pub old_right : (i : Op) (x : ℕ) → Contains t.ops i → WrongValue initial t' i x → ⊥
   old_right i x h v =
       elim (value_back t t' l.before l.after l.writers l.operations ⊥ same_source initial i x h v) [
-        | inl
-            w ↦ legal.valued i x w
+        | inl w ↦ legal.valued i x w
         | inr c ↦ c
       ]
 
@@ -67,27 +65,23 @@ pub insn_breaks_its_own : InsnBreaksItsOwn
 insn_breaks_its_own initial t t' r new k legal s = record {
   pairs = λ j a b p. elim (s.ops_back b p.second_in) [
     | inl m ↦ s.are_of.own b m
-    | inr hb ↦ absurd
-        (elim (s.ops_back a p.first_in) [
-          | inl m ↦ younger a b m hb p.one_hart p.in_order
-          | inr ha ↦ old_unbroken
-              initial t t' l s.ops_on legal j a b ha hb p
-        ])
+    | inr hb ↦ absurd (elim (s.ops_back a p.first_in) [
+      | inl m ↦ younger a b m hb p.one_hart p.in_order
+      | inr ha ↦ old_unbroken
+          initial t t' l s.ops_on legal j a b ha hb p
+    ])
   ];
   values = λ i x v.
       elim (s.ops_back i v.load_in) [
         | inl m ↦ s.are_of.own i m
-        | inr hi ↦ absurd
-            (old_right initial t t' l s.ops_on legal i x hi v)
+        | inr hi ↦ absurd (old_right initial t t' l s.ops_on legal i x hi v)
       ];
   atomicity = λ i w p. elim (s.ops_back w p.pair.sc_in) [
     | inl m ↦ s.are_of.own w m
-    | inr hw ↦ absurd
-        (elim (s.ops_back i p.pair.lr_in) [
-          | inl m ↦ younger i w m hw p.pair.one_hart p.pair.in_order
-          | inr
-              hi ↦ old_atomic initial t t' l s.ops_on legal i w hi hw p
-        ])
+    | inr hw ↦ absurd (elim (s.ops_back i p.pair.lr_in) [
+      | inl m ↦ younger i w m hw p.pair.one_hart p.pair.in_order
+      | inr hi ↦ old_atomic initial t t' l s.ops_on legal i w hi hw p
+    ])
   ];
 }
   where

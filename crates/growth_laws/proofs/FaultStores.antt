@@ -97,8 +97,7 @@ module _ (initial : ℕ → ℕ) (t t' : Trace) (h : ℕ) (parts : List Op) (k :
     | inl plain ↦ plain_first t' j a b k' p.first_in plain p.rule
     | inr other ↦ elim (first_or_later j) [
       | inl one ↦ inl one
-      | inr more ↦ absurd
-          (at more (old a p.first_in (λ q. both_ways _ other q)) (stem b p.second_in))
+      | inr more ↦ absurd (at more (old a p.first_in (λ q. both_ways _ other q)) (stem b p.second_in))
     ]
   ]
     where

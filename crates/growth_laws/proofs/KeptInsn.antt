@@ -61,8 +61,7 @@ module _ (t t' : Trace) (r : Retired) (new : List Op) (k : WellKinded t) (s : Ad
   atomic_place : (e o : Op) → AddsAtomic t t' r new e o → (b : Op) (p : Place) → Contains (everything t') b
       → o.place ≡ Some p → b.place ≡ Some p → o ≡ b
   atomic_place e o q b p h f g = elim (Contains-append_cases t'.ops t'.early b h) [
-    | inr j ↦ absurd
-        (q.gone (subst (λ (z : Op). Contains t'.early z)
+    | inr j ↦ absurd (q.gone (subst (λ (z : Op). Contains t'.early z)
         (was_early e o q b p (Contains-append_right t.ops t.early b (q.early_back b j)) f g) j))
     | inl j ↦ elim (is b j) [
       | inl n ↦ sym (only o b new q.one n)
@@ -118,8 +117,7 @@ module _ (t t' : Trace) (r : Retired) (new : List Op) (k : WellKinded t) (s : Ad
         s.are_of.own o.0 m,
         λ v i f. elim (is v i) [
           | inl n ↦ only o.0 v new o.1 n
-          | inr j ↦ absurd
-              (let l : v.name.tag < r.tag = older t t' r new k s v j f.0 in omega (arith, f.1))
+          | inr j ↦ absurd (let l : v.name.tag < r.tag = older t t' r new k s v j f.0 in omega (arith, f.1))
         ],
       )
 
@@ -166,8 +164,7 @@ module _ (t t' : Trace) (r : Retired) (new : List Op) (k : WellKinded t) (s : Ad
         elim (more_back t t' r s.keeps w h) [
           | inl e ↦ subst (HasOne t') (sym e)
               (single_new (subst (λ (z : Retired). (is_one is_lr (Some z) || has_stored (Some z)) ≡ true) e q))
-          | inr
-              i ↦ single_old w i q
+          | inr i ↦ single_old w i q
         ];
     granule = subst IsGranule (sym s.keeps.granule) k.form.granule;
     aligned = λ a h l q. aligned_of a (is a h) (rw (← s.keeps.granule) l) q;

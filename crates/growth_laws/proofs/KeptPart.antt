@@ -58,8 +58,7 @@ module _ (t t' : Trace) (o n : Op) (rest : Option Op) (k : WellKinded t) (s : Pe
     | inl e ↦ inl (inl e)
     | inr r ↦ elim r [
       | inl e ↦ inl (inr e)
-      | inr j ↦ inr
-          (j, λ same. s.gone (subst (λ (z : Op). Contains t'.ops z) same h))
+      | inr j ↦ inr (j, λ same. s.gone (subst (λ (z : Op). Contains t'.ops z) same h))
     ]
   ]
 

@@ -94,12 +94,11 @@ module _ (t t' : Trace) (k : WellKinded t) (k' : WellKinded t') (go : (x : ℕ) 
       let there = g.stays i v.load_in p in
       elim (source_stays t t' x i k k' (go x) v.load_in there p) [
         | inr c ↦ inr (has_overlap t' x c.crossed)
-        | inl h ↦ inl
-            (record {
-              load_in = there;
-              loads = v.loads;
-              wrong = λ e. v.wrong (e ∙ same_given initial t t' x (source t i x) (source t' i x) h);
-            })
+        | inl h ↦ inl (record {
+          load_in = there;
+          loads = v.loads;
+          wrong = λ e. v.wrong (e ∙ same_given initial t t' x (source t i x) (source t' i x) h);
+        })
       ]
 
   -- a store before a performed operation goes on where it stands
@@ -155,8 +154,7 @@ module _ (t t' : Trace) (k : WellKinded t) (k' : WellKinded t') (go : (x : ℕ) 
   pub torn_on : (r w : Op) → Torn t r w → Torn t' r w ⊎ HasOverlap t'
   torn_on r w p = elim p.torn [
     | inl x ↦ elim (torn_at r w x.0 p.pair x.1) [
-      | inl h ↦ inl
-          (record { pair = pair_on t t' k g r w p.pair; torn = inl (x.0, h) })
+      | inl h ↦ inl (record { pair = pair_on t t' k g r w p.pair; torn = inl (x.0, h) })
       | inr c ↦ inr c
     ]
     | inr v ↦ inl (record { pair = pair_on t t' k g r w p.pair; torn = inr (block_on r w v.0 p.pair v.1) })

@@ -23,6 +23,7 @@ pub mod PlainStores
 pub mod Quiet
 pub mod ReadOperations
 pub mod Reduction
+pub mod Right
 pub mod SameInsns
 pub mod Settled
 pub mod Sources

@@ -73,8 +73,7 @@ part_ops t t' o n rest s = record {
   stays = λ v h p.
       elim (s.ops_on v h) [
         | inl same ↦ absurd (not_both v p (ap (λ (z : Op). z.place) same ∙ s.unperformed))
-        | inr
-            j ↦ j
+        | inr j ↦ j
       ];
   lift = λ v x h q. elim (s.ops_on v h) [
     | inl same ↦

@@ -61,8 +61,7 @@ module _ (t t' : Trace) (k : WellKinded t) (k' : WellKinded t') (go : (x : ℕ) 
       let p = load_placed t i k h (and_parts (loads i) (covers x i) q).0 in
       elim (origin_stays t t' x i k k' (go x) h (g.stays i h p) p) [
         | inl e ↦ inl e
-        | inr c ↦ inr
-            (has_overlap t' x c.crossed)
+        | inr c ↦ inr (has_overlap t' x c.crossed)
       ]
 
   -- a store to x between two old operations was there
@@ -111,8 +110,7 @@ module _ (t t' : Trace) (k : WellKinded t) (k' : WellKinded t') (go : (x : ℕ) 
         | inr c ↦ inr c
         | inl e ↦ elim (origin_on b h.0 hb h.2) [
           | inr c ↦ inr c
-          | inl f ↦ inl
-              (h.0, h.1, h.2, (λ s. h.3 (store_was a b h.0 hb one s)), λ q. h.4 (sym e ∙ q ∙ f))
+          | inl f ↦ inl (h.0, h.1, h.2, (λ s. h.3 (store_was a b h.0 hb one s)), λ q. h.4 (sym e ∙ q ∙ f))
         ]
       ]
       at R3 h = elim (origin_on b h.1.0 hb h.1.2) [
@@ -138,10 +136,8 @@ module _ (t t' : Trace) (k : WellKinded t) (k' : WellKinded t') (go : (x : ℕ) 
         | inl f ↦
             let d : AddressOn t' a h.0 ⊎ DataOn t' a h.0 =
             elim h.3.0 [
-              | inl d ↦ inl
-                  (address_on t t' a.name.hart b.name.tag same h.0 a.name.tag (inl h.2) d)
-              | inr d ↦ inr
-                  (data_on t t' a.name.hart b.name.tag same h.0 a.name.tag (inl h.2) d)
+              | inl d ↦ inl (address_on t t' a.name.hart b.name.tag same h.0 a.name.tag (inl h.2) d)
+              | inr d ↦ inr (data_on t t' a.name.hart b.name.tag same h.0 a.name.tag (inl h.2) d)
             ] in
             inl (h.0, h.1, h.2, (d, reads_dependent_still t t' a b h.0 k' d h.3.1 f))
       ]

@@ -37,8 +37,7 @@ part_on : (u v : Trace) (o n : Op) (rest : Option Op) → PerformsPart u v o n r
     → Contains (everything u) w → IsPlaced w → Contains (everything v) w
 part_on u v o n rest p w i q = elim (Contains-append_cases u.ops u.early w i) [
   | inl a ↦ elim (p.ops_on w a) [
-    | inl same ↦ absurd
-        (not_both w q (ap (λ (z : Op). z.place) same ∙ p.unperformed))
+    | inl same ↦ absurd (not_both w q (ap (λ (z : Op). z.place) same ∙ p.unperformed))
     | inr b ↦ Contains-append_left v.ops v.early w b
   ]
   | inr a ↦ Contains-append_right v.ops v.early w (p.early.on w a)

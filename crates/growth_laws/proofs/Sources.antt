@@ -217,7 +217,6 @@ pub origin_stays : (t t' : Trace) (x : ℕ) (i : Op) → WellKinded t → WellKi
     → Contains t.ops i → Contains t'.ops i → IsPlaced i → (origin t' i x ≡ origin t i x) ⊎ Overtaken t t' x
 origin_stays t t' x i k k' go here there p =
     elim (source_stays t t' x i k k' go here there p) [
-      | inl h ↦ inl
-          (same_origin t t' x (source t i x) (source t' i x) h)
+      | inl h ↦ inl (same_origin t t' x (source t i x) (source t' i x) h)
       | inr c ↦ inr c
     ]

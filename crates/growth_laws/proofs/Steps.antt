@@ -35,8 +35,7 @@ pub grows : (t t' : Trace) → ((v : Op) → Contains t.ops v → Contains t'.op
 grows t t' f g w h =
     elim (Contains-append_cases t.ops t.early w h) [
       | inl a ↦ Contains-append_left t'.ops t'.early w (f w a)
-      | inr
-          b ↦ Contains-append_right t'.ops t'.early w (g w b)
+      | inr b ↦ Contains-append_right t'.ops t'.early w (g w b)
     ]
 
 -- a store is new
@@ -210,8 +209,7 @@ module _ (t t' : Trace) (o n : Op) (rest : Option Op) (x : ℕ) (k : WellKinded 
   retired_on : (v : Op) → Contains t.early v → Contains t.ops v → Contains t'.ops v
   retired_on v b i =
       elim (s.ops_on v i) [
-        | inl same ↦ absurd
-            (not_both v (k.form.early v b) (ap (λ (z : Op). z.place) same ∙ s.unperformed))
+        | inl same ↦ absurd (not_both v (k.form.early v b) (ap (λ (z : Op). z.place) same ∙ s.unperformed))
         | inr j ↦ j
       ]
 

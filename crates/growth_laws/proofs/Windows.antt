@@ -94,8 +94,7 @@ module _ (initial : ℕ → ℕ) (t t' : Trace) (a : Op) (k : WellKinded t) (leg
         | inl q ↦ q
         | inr q ↦ elim (cases_Bool (precedes a c)) [
           | inl z ↦ absurd (unbroken c i (refl, refl) (λ x s. s) z)
-          | inr z ↦ absurd
-              (let same : c ≡ a = alike t c a k (Contains-append_left t.ops t.early c i)
+          | inr z ↦ absurd (let same : c ≡ a = alike t c a k (Contains-append_left t.ops t.early c i)
               (Contains-append_left t.ops t.early a below.in_ops) q z in let m = p.in_order in
               omega (arith, ap (λ (o : Op). o.name.tag) same))
         ]

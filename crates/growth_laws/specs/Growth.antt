@@ -43,6 +43,7 @@ pub record Keeps (t t' : Trace) (more : Option Retired) : Type 0 where
 
 -- ---- nothing
 
+-- nothing changes but the order of the lists
 pub record Same (t t' : Trace) : Type 0 where
   pub keeps : Keeps t t' None
   pub ops : SameMembers t.ops t'.ops
@@ -118,6 +119,7 @@ pub record AddsNothing (t t' : Trace) (r : Retired) (new : List Op) : Type 0 whe
   pub early : SameMembers t.early t'.early
   pub none : new ≡ []
 
+-- the operations new are what the instruction r adds
 pub data Adds (t t' : Trace) (r : Retired) (new : List Op) : Type 0 where
   adds_loads : AddsLoads t t' r new → Adds t t' r new
   adds_store : (o : Op) → AddsStore t t' r new o → Adds t t' r new
@@ -176,6 +178,7 @@ pub data Performs (h : ℕ) (t : Trace) : List Op → Trace → Type 0 where
 
 -- ---- growth
 
+-- t grows to t'
 pub data Growth (t t' : Trace) : Type 0 where
   grow_same : Same t t' → Growth t t'
   grow_early : (e : Op) → AddEarly t t' e → Growth t t'

@@ -31,6 +31,7 @@ kind_of_insn (Sc wide aq rl rd rs1 rs2) stored = if stored then Some kind.Store 
 kind_of_insn (Amo op wide aq rl rd rs1 rs2) stored = Some kind.Both
 kind_of_insn _ stored = None
 
+-- the kind of the operations of an instruction that retired
 abbrev pub kind_of : Retired → Option OpKind
 kind_of w = kind_of_insn w.insn w.stored
 

@@ -28,6 +28,7 @@ pub record IsStart (initial : ℕ → ℕ) (t : Trace) : Type 0 where
   pub kinded : WellKinded t
   pub legal : Legal initial t
 
+-- nothing is a trace to begin with, under each granule
 abbrev pub StartsWell : Type 0
 StartsWell = (initial : ℕ → ℕ) (granule : ℕ) → IsGranule granule → IsStart initial (nothing_yet granule)
 
@@ -61,6 +62,7 @@ abbrev pub IsSettled : Option Op → Type 0
 IsSettled None = Unit {0}
 IsSettled (Some s) = IsPlaced s
 
+-- the place of a source
 abbrev pub place_of : Option Op → Option Place
 place_of None = None
 place_of (Some s) = s.place
@@ -90,8 +92,8 @@ NoMending = (initial : ℕ → ℕ) (t t' : Trace) → WellKinded t → Grows t 
 
 -- nothing, and an early store more, break nothing
 abbrev pub EarlyBreaksNothing : Type 0
-EarlyBreaksNothing = (initial : ℕ → ℕ) (t t' : Trace) → WellKinded t → Legal initial t → Same t t'
-    ⊎ ((e : Op) × AddEarly t t' e) → Legal initial t'
+EarlyBreaksNothing = (initial : ℕ → ℕ) (t t' : Trace) → WellKinded t → Legal initial t
+    → Same t t' ⊎ ((e : Op) × AddEarly t t' e) → Legal initial t'
 
 -- all that is wrong is of the instruction r
 pub record WrongOnlyBy (initial : ℕ → ℕ) (t : Trace) (r : Retired) : Type 0 where
@@ -121,6 +123,7 @@ pub record WrongByStores (initial : ℕ → ℕ) (t : Trace) (parts : List Op) :
   pub rule : (k : Rule) (a b : Op) → IsLeastRule t k → Broken k t a b → (k ≡ R1) ⊎ (k ≡ R4) ⊎ (k ≡ R6)
   pub pair : (k : Rule) (a b : Op) → IsLeastRule t k → Broken k t a b → BrokenByStores t parts a b
 
+-- stores performed by one message break no more than that
 abbrev pub StoresBreakPairs : Type 0
 StoresBreakPairs = (initial : ℕ → ℕ) (t t' : Trace) (h : ℕ) (parts : List Op) → WellKinded t → Legal initial t
     → Performs h t parts t' → WrongByStores initial t' parts
@@ -156,8 +159,8 @@ pub record PrecedesLater (t t' : Trace) (a b : Op) : Type 0 where
   pub before : precedes a b ≡ true
   pub unbroken : (k : Rule) → Broken k t' a b → ⊥
   -- what rules 1, 9 and 10 put before a precedes a, and so b
-  pub forced : (k : Rule) (c : Op) → (k ≡ R1) ⊎ (k ≡ R9) ⊎ (k ≡ R10) → IsPreserved k t' c a → (precedes c a ≡ true)
-      × (precedes c b ≡ true)
+  pub forced : (k : Rule) (c : Op) → (k ≡ R1) ⊎ (k ≡ R9) ⊎ (k ≡ R10) → IsPreserved k t' c a
+      → (precedes c a ≡ true) × (precedes c b ≡ true)
   -- so where a stores to a byte, older loads of it precede b
   pub loads : (c : Op) (x : ℕ) → Contains t'.ops c → a.name.hart ≡ c.name.hart → c.name.tag < a.name.tag
       → reads x c ≡ true → writes x a ≡ true → precedes c b ≡ true

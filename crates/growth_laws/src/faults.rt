@@ -1,7 +1,7 @@
 //! Laws on what a growth can break, and what it can't: functions that do nothing, whose clauses are
 //! the laws.
 
-ghost use Rattle.growth_laws.specs.Corollaries.{SourcesRest, QuietInsns, SecondOfHart};
+ghost use Rattle.growth_laws.specs.Corollaries.{SourcesRest, QuietInsns, SecondOfHart, LegalWhereRight};
 ghost use Rattle.growth_laws.specs.Laws.{PlaceOfFault, ReportOfHart, Windows};
 
 /// Place of the fault: from a well-kinded legal trace an early store breaks nothing; an instruction
@@ -24,6 +24,15 @@ pub fn sources_rest_where_nothing_is_performed()
 #[tactic(auto, using(crate::proofs::Quiet::quiet_insns))]
 pub fn stores_retire_quietly()
     ensures { QuietInsns }
+{}
+
+/// One growth of a well-kinded legal trace gives a legal one exactly where what it adds is right: for an
+/// instruction no pair with its operation second, no byte that it loaded and no pair of its own; for
+/// stores performed by a message no pair of same address, fence or release that it completes. Nothing and
+/// an early store are always right.
+#[tactic(auto, using(crate::proofs::Right::legal_where_right))]
+pub fn growth_is_legal_where_right()
+    ensures { LegalWhereRight }
 {}
 
 /// After one growth of a well-kinded legal trace the second operation of each broken pair of the least

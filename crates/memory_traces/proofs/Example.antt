@@ -157,8 +157,7 @@ perform_low = record {
   ops_back =
       λ v i. elim (six_back v (among t6.ops v i)) [
         | inl e ↦ inl e
-        | inr
-            r ↦ elim r [ inl e ↦ inr (inl e) | inr j ↦ inr (inr (contained t5.ops v j)) ]
+        | inr r ↦ elim r [ inl e ↦ inr (inl e) | inr j ↦ inr (inr (contained t5.ops v j)) ]
       ];
   gone = λ i. second_gone (among t6.ops second_store i);
   added = contained t6.ops low (inr (inl refl));
@@ -184,8 +183,7 @@ perform_high = record {
   ops_back =
       λ v i. elim (seven_back v (among t7.ops v i)) [
         | inl e ↦ inl e
-        | inr
-            r ↦ elim r [ inl e ↦ inr (inl e) | inr j ↦ inr (inr (contained t6.ops v j)) ]
+        | inr r ↦ elim r [ inl e ↦ inr (inl e) | inr j ↦ inr (inr (contained t6.ops v j)) ]
       ];
   gone = λ i. left_gone (among t7.ops left i);
   added = contained t7.ops high (inr (inr (inl refl)));

@@ -73,8 +73,7 @@ is_lone p (z ∷ zs) e = at (p z) refl e (is_lone p zs)
       q,
       λ y i r. elim (in_cases z zs y i) [
         | inl same ↦ same
-        | inr j ↦ absurd
-            (not_false (list_any p zs) f ((some_is p zs).1 (y, j, r)))
+        | inr j ↦ absurd (not_false (list_any p zs) f ((some_is p zs).1 (y, j, r)))
       ],
     )
     at false q f rec =
@@ -88,8 +87,7 @@ is_lone p (z ∷ zs) e = at (p z) refl e (is_lone p zs)
 rising_is : (ws : List Retired) → each_two follows ws ≡ true → AreRising ws
 rising_is ws e = pairs_in follows (λ (w v : Retired). v.hart ≡ w.hart → w.tag < v.tag)
     (λ w v q same. elim (or_cases (not (eqb v.hart w.hart)) (ltb w.tag v.tag) q) [
-      | inl f ↦ absurd
-          (not_false _ f (eq-eqb _ _ same))
+      | inl f ↦ absurd (not_false _ f (eq-eqb _ _ same))
       | inr l ↦ ltb-true _ _ l
     ]) ws e
 
@@ -123,8 +121,7 @@ same_where : (os : List Op) (a b : Op) → each_two apart os ≡ true → Contai
 same_where os a b e i j c d =
     elim (two_in apart os a b e i j) [
       | inl s ↦ s
-      | inr o ↦ absurd
-          (elim o [ inl p ↦ apart_not a b p c | inr p ↦ apart_not b a p d ])
+      | inr o ↦ absurd (elim o [ inl p ↦ apart_not a b p c | inr p ↦ apart_not b a p d ])
     ]
 
 clash_waiting : (a b : Op) → a.name.hart ≡ b.name.hart → a.name.tag ≡ b.name.tag → a.place ≡ None → b.place ≡ None
@@ -197,8 +194,7 @@ granule_is g e = elim (or_cases ((((eqb g 0 || eqb g 8) || eqb g 16) || eqb g 32
       | inr c ↦ inr (inr (inl (eqb-true _ _ c)))
       | inl c ↦ elim (or_cases (eqb g 0) (eqb g 8) c) [
         | inl d ↦ inl (eqb-true _ _ d)
-        | inr d ↦ inr
-            (inl (eqb-true _ _ d))
+        | inr d ↦ inr (inl (eqb-true _ _ d))
       ]
     ]
   ]

@@ -137,8 +137,7 @@ module _ (t : Trace) (form : InForm t) where
         lower = λ v h l.
             elim (in_cases k ks v h) [
               | inl q ↦ absurd (let s = ap number q in omega arith)
-              | inr i ↦ absurd
-                  (let m = above_in (number k) ks v a.1 i in omega arith)
+              | inr i ↦ absurd (let m = above_in (number k) ks v a.1 i in omega arith)
             ];
       }
       at None f g rec =

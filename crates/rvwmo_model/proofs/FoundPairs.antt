@@ -25,8 +25,7 @@ within_is w r = (
   (λ e x c.
       elim (cases_Bool (covers x r)) [
         | inl q ↦ q
-        | inr q ↦ absurd
-            (both_ways _ (not_false _ e) ((bytes).1 (x, and_from _ _ c (ap not q))))
+        | inr q ↦ absurd (both_ways _ (not_false _ e) ((bytes).1 (x, and_from _ _ c (ap not q))))
       ]),
   λ h. ap not (not_true _ (λ e.
       let x = bytes.0 e in

@@ -10,6 +10,7 @@ pub mod Membership
 pub mod OperationKinds
 pub mod Orders
 pub mod Reaching
+pub mod Reordered
 pub mod Reports
 pub mod Searches
 pub mod Tested

@@ -46,8 +46,7 @@ from_filter p (v ∷ ws) w h = at (p v) refl (from_filter p ws w) h
     at true e rec h =
         elim (in_cases v (filter p ws) w h) [
           | inl q ↦ (first_in v ws w q, ap p q ∙ e)
-          | inr
-              j ↦ (tail_in v ws w (rec j).0, (rec j).1)
+          | inr j ↦ (tail_in v ws w (rec j).0, (rec j).1)
         ]
     at false e rec j = (tail_in v ws w (rec j).0, (rec j).1)
 

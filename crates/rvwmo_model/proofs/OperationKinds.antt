@@ -104,13 +104,11 @@ first_both R3 t a b = same (Holds R3 t a b)
 first_both R4 t a b = (
   (λ h. elim (or_cases _ _ (sym (split h.0) ∙ h.3)) [
     | inl p ↦ inl (h.0, h.1, h.2, p)
-    | inr p ↦ inr
-        (h.0, h.1, h.2, p)
+    | inr p ↦ inr (h.0, h.1, h.2, p)
   ]),
   λ s. elim s [
     | inl h ↦ (h.0, h.1, h.2, split h.0 ∙ or_left _ _ h.3)
-    | inr
-        h ↦ (h.0, h.1, h.2, split h.0 ∙ or_right _ _ h.3)
+    | inr h ↦ (h.0, h.1, h.2, split h.0 ∙ or_right _ _ h.3)
   ],
 )
   where
@@ -137,13 +135,11 @@ second_both R3 t a b = ((λ h. inl h), λ s. elim s [ inl h ↦ h | inr h ↦ ab
 second_both R4 t a b = (
   (λ h. elim (or_cases _ _ (sym (split h.0) ∙ h.3)) [
     | inl p ↦ inl (h.0, h.1, h.2, p)
-    | inr p ↦ inr
-        (h.0, h.1, h.2, p)
+    | inr p ↦ inr (h.0, h.1, h.2, p)
   ]),
   λ s. elim s [
     | inl h ↦ (h.0, h.1, h.2, split h.0 ∙ or_left _ _ h.3)
-    | inr
-        h ↦ (h.0, h.1, h.2, split h.0 ∙ or_right _ _ h.3)
+    | inr h ↦ (h.0, h.1, h.2, split h.0 ∙ or_right _ _ h.3)
   ],
 )
   where

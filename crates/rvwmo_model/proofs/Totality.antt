@@ -20,11 +20,9 @@ pub one_name : (t : Trace) (a b : Op) → InForm t → Contains t.ops a → Cont
 one_name t a b f h i e = elim (cases_order h.0 i.0) [
   | inl q ↦ sym h.2 ∙ get_or_default t.ops h.0 a b h.1 ∙ ap (λ (k : ℕ). slice_index_or t.ops k b) q ∙ i.2
   | inr o ↦ elim o [
-    | inl l ↦ absurd
-        (f.apart h.0 i.0 a l i.1
+    | inl l ↦ absurd (f.apart h.0 i.0 a l i.1
         (ap (λ (o : Op). o.name) h.2 ∙ e ∙ ap (λ (o : Op). o.name) (sym (get_or_default t.ops i.0 a b i.1 ∙ i.2))))
-    | inr l ↦ absurd
-        (f.apart i.0 h.0 a l h.1 (ap (λ (o : Op). o.name) (get_or_default t.ops i.0 a b i.1 ∙ i.2) ∙ sym e
+    | inr l ↦ absurd (f.apart i.0 h.0 a l h.1 (ap (λ (o : Op). o.name) (get_or_default t.ops i.0 a b i.1 ∙ i.2) ∙ sym e
         ∙ ap (λ (o : Op). o.name) (sym h.2)))
   ]
 ]
@@ -34,8 +32,7 @@ waiting_retired : (t : Trace) (o : Op) → InForm t → Contains (everything t) 
 waiting_retired t o f h e =
     elim (Contains-append_cases t.ops t.early o h) [
       | inl a ↦ a
-      | inr b ↦ absurd
-          (let p = f.early o b in let q : Some p.0 ≡ None = sym p.1 ∙ e in cc)
+      | inr b ↦ absurd (let p = f.early o b in let q : Some p.0 ≡ None = sym p.1 ∙ e in cc)
     ]
 
 -- operations that stand alike are the same

@@ -130,8 +130,7 @@ set_target Wfi stored q e = absurd (false≢true e)
 set_target (Csr op rd source number) stored q e =
     elim (or_cases (is_x rd q) (writes_csr op source && is_csr number q) e) [
       | inl a ↦ inl (rd_target rd q a)
-      | inr b ↦ inr
-          (ap (λ (r : Register). Some r)
+      | inr b ↦ inr (ap (λ (r : Register). Some r)
           (sym (csr_is number q (and_parts (writes_csr op source) (is_csr number q) b).1)))
     ]
 set_target (Lr wide aq rl rd rs1) stored q e = inl (rd_target rd q e)
@@ -436,8 +435,7 @@ finds_from_is search insns n marks (w ∷ ws) rising later same st =
               (λ (k : ℕ). (search.from ≤ k) × (k ≤ search.to) × DependsBy (use_of search.by) insns search.hart k
               search.start) q (f.2, f.3, f.4)))
           | inr o ↦ elim o [
-            | inl l ↦ absurd
-                (not_there (λ v. use_of search.by v f.4.0) (insn_at insns search.hart f.0) (none f.0 f.1 l) f.4.1)
+            | inl l ↦ absurd (not_there (λ v. use_of search.by v f.4.0) (insn_at insns search.hart f.0) (none f.0 f.1 l) f.4.1)
             | inr l ↦ or_right (is_found search marks w) _ (rest.1 (f.0, l, f.2, f.3, f.4))
           ]
         ]

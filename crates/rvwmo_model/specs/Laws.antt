@@ -79,3 +79,16 @@ ReportIsWhereBroken = (t : Trace) → InForm t
 abbrev pub AnswerIsOne : Type 0
 AnswerIsOne =
     (initial : ℕ → ℕ) (t : Trace) → InForm t → (p q : Judged) → IsAnswer initial t p → IsAnswer initial t q → p ≡ q
+
+-- the same instructions, and the same operations and early stores, in whatever order
+pub record IsReordered (t t' : Trace) : Type 0 where
+  pub insns : t'.insns ≡ t.insns
+  pub ops : (o : Op) → Contains t.ops o ↔ Contains t'.ops o
+  pub early : (o : Op) → Contains t.early o ↔ Contains t'.early o
+  pub granule : t'.granule ≡ t.granule
+
+-- the order of the lists of operations and of early stores changes no answer
+abbrev pub AnswerOfMembers : Type 0
+AnswerOfMembers =
+    (initial : ℕ → ℕ) (t t' : Trace) (j : Judged) → InForm t → InForm t' → IsReordered t t'
+    → IsAnswer initial t j ↔ IsAnswer initial t' j

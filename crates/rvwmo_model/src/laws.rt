@@ -1,7 +1,7 @@
 //! Laws of the definitions: functions that do nothing, whose clauses are the laws.
 
 ghost use Rattle.rvwmo_model.specs.Laws.{GlobalOrder, SourceIsLatest, DependencyIsWalk, FenceTso, FenceBySets};
-ghost use Rattle.rvwmo_model.specs.Laws.{AmoIsLoadAndStore, ReportIsOne, ReportIsWhereBroken, AnswerIsOne};
+ghost use Rattle.rvwmo_model.specs.Laws.{AmoIsLoadAndStore, ReportIsOne, ReportIsWhereBroken, AnswerIsOne, AnswerOfMembers};
 
 /// The global order is a strict total order on the operations of a trace in form.
 #[tactic(auto, using(crate::proofs::Totality::total_order))]
@@ -51,4 +51,11 @@ pub fn report_is_where_broken()
 #[tactic(auto, using(crate::proofs::Uniqueness::answer_one))]
 pub fn answer_is_one()
     ensures { AnswerIsOne }
+{}
+
+/// Two traces in form with the same instructions, and with the same operations and early stores in
+/// whatever order, have the same answer.
+#[tactic(auto, using(crate::proofs::Reordered::answer_of_members))]
+pub fn answer_is_of_members()
+    ensures { AnswerOfMembers }
 {}

@@ -20,8 +20,9 @@ pub use initial::InitialBytes;
 pub use instructions::Retired;
 pub use judge::plain_judge;
 pub use laws::{
-    amo_is_load_and_store, answer_is_one, dependency_is_walk, fence_orders_kinds,
-    global_order_is_total, report_is_one, report_is_where_broken, source_is_latest,
+    amo_is_load_and_store, answer_is_of_members, answer_is_one, dependency_is_walk,
+    fence_orders_kinds, global_order_is_total, report_is_one, report_is_where_broken,
+    source_is_latest,
 };
 pub use lists::{InsnList, ItemList, OpList};
 pub use operations::{Ann, Op, OpKind};
