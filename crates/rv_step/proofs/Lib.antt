@@ -1,2 +1,3 @@
 pub mod Held
-pub mod Suited
+pub mod Planned
+pub mod Committed

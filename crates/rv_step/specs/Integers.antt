@@ -1,22 +1,24 @@
 -- The results of the integer instructions (Unprivileged ISA 20191213), modulo 2 ^ 64.
-use Rattle.std.specs.Prelude.{ℕ, ◌+◌, ◌-◌, ◌*◌, ◌/◌, ◌%◌, ◌^◌, ◌==◌, ℤ, Bool, true, false, not, nat_lt, bit_and, bit_or, bit_xor, if◌then◌else◌}
-use Rattle.std.specs.Int.{w64, cast_unsigned}
-use Rattle.tandem_base.specs.Signs.{is_negative, sign_extended}
+use Rattle.std.specs.Prelude.{int_lt, pos, ℕ, ◌+◌, ◌-◌, ◌*◌, ◌/◌, ◌%◌, ◌^◌, ◌==◌, ℤ, Bool, not, nat_lt, bit_and, bit_or}
+use Rattle.std.specs.Prelude.{bit_xor, if◌then◌else◌}
+use Rattle.std.specs.Int.{w64, cast_unsigned, int_div_euclid}
+use Rattle.rv_decode.specs.Formats.{field}
+use Rattle.tandem_base.specs.Signs.{represents, sign_extended}
 use Rattle.tandem_base.specs.Multiplication.{mulh_of, mulhu_of, mulhsu_of}
 use Rattle.tandem_base.specs.Division.{div_of, divu_of, rem_of, remu_of}
 use Rattle.rv_decode.specs.declared.operations.BranchOp.{BranchOp}
 use Rattle.rv_decode.specs.declared.operations.BranchOp.TheVariants.{Beq, Bne, Blt, Bge, Bltu, Bgeu}
 use Rattle.rv_decode.specs.declared.operations.ImmOp.{ImmOp}
-use Rattle.rv_decode.specs.declared.operations.ImmOp.TheVariants.{Addi, Slti, Sltiu, Xori, Ori, Andi, Slli, Srli, Srai, Addiw, Slliw, Srliw, Sraiw}
+use Rattle.rv_decode.specs.declared.operations.ImmOp.TheVariants.{Addi, Slti, Sltiu, Xori, Ori, Andi, Slli, Srli, Srai}
+use Rattle.rv_decode.specs.declared.operations.ImmOp.TheVariants.{Addiw, Slliw, Srliw, Sraiw}
 use Rattle.rv_decode.specs.declared.operations.RegOp.{RegOp}
-use Rattle.rv_decode.specs.declared.operations.RegOp.TheVariants.{Add, Sub, Sll, Slt, Sltu, Xor, Srl, Sra, Or, And, Mul, Mulh, Mulhsu, Mulhu, Div, Divu, Rem, Remu, Addw, Subw, Sllw, Srlw, Sraw, Mulw, Divw, Divuw, Remw, Remuw}
+use Rattle.rv_decode.specs.declared.operations.RegOp.TheVariants.{Add, Sub, Sll, Slt, Sltu, Xor, Srl, Sra, Or, And, Mul}
+use Rattle.rv_decode.specs.declared.operations.RegOp.TheVariants.{Mulh, Mulhsu, Mulhu, Div, Divu, Rem, Remu, Addw, Subw}
+use Rattle.rv_decode.specs.declared.operations.RegOp.TheVariants.{Sllw, Srlw, Sraw, Mulw, Divw, Divuw, Remw, Remuw}
 
 -- one number with a sign is below another
 abbrev pub less_signed : ℕ → ℕ → ℕ → Bool
-less_signed width a b =
-    if is_negative width a
-    then (if is_negative width b then nat_lt a b else true)
-    else (if is_negative width b then false else nat_lt a b)
+less_signed width a b = int_lt (represents width a) (represents width b)
 
 -- a test as a number
 abbrev pub number_of_test : Bool → ℕ
@@ -26,24 +28,23 @@ number_of_test test = if test then 1 else 0
 abbrev pub low_word : ℕ → ℕ
 low_word a = a % 2 ^ 32
 
--- a sum, a difference, a shift to the left, and the shifts to the right: a logical one brings zeros
--- in from above, an arithmetic one copies of the sign bit, so that the complement of a negative
--- number is shifted
+-- a sum and a difference
 abbrev pub sum_of : ℕ → ℕ → ℕ
 sum_of a b = (a + b) % 2 ^ 64
 
 abbrev pub sub_of : ℕ → ℕ → ℕ
 sub_of a b = (a + (2 ^ 64 - b)) % 2 ^ 64
 
+-- a shift to the left, and a logical one to the right
 abbrev pub sll_of : ℕ → ℕ → ℕ
 sll_of a amount = a * 2 ^ amount % 2 ^ 64
 
 abbrev pub srl_of : ℕ → ℕ → ℕ
 srl_of a amount = a / 2 ^ amount
 
+-- an arithmetic shift to the right: the number with a sign divided by a power of 2, and rounded down
 abbrev pub sra_of : ℕ → ℕ → ℕ → ℕ
-sra_of width a amount =
-    if is_negative width a then 2 ^ width - 1 - (2 ^ width - 1 - a) / 2 ^ amount else a / 2 ^ amount
+sra_of width a amount = field width (int_div_euclid (represents width a) (pos (2 ^ amount)))
 
 -- two registers: sections 2.4 and 5.2 (the amount of a shift is in the low 6 bits of rs2, or in the
 -- low 5 for a word), 7.1 and 7.2; the W forms work on the low 32 bits, and sign-extend the result

@@ -5,3 +5,4 @@ pub mod Causes
 pub mod CsrUse
 pub mod Steps
 pub mod Plans
+pub mod Promises

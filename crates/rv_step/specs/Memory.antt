@@ -1,5 +1,6 @@
 -- The values that loads, stores and atomic instructions read and write (Unprivileged ISA 20191213).
-use Rattle.std.specs.Prelude.{ℕ, ◌+◌, ◌%◌, ◌^◌, Bool, List, [], take, nat_lt, bit_and, bit_or, bit_xor, Option, Some, None, if◌then◌else◌}
+use Rattle.std.specs.Prelude.{ℕ, ◌+◌, ◌%◌, ◌^◌, Bool, List, [], take, nat_lt, bit_and, bit_or, bit_xor, Option, Some}
+use Rattle.std.specs.Prelude.{None, if◌then◌else◌}
 use Rattle.std.specs.Int.{w64, to_le_bytes}
 use Rattle.tandem_base.specs.Signs.{sign_extended}
 use Rattle.rv_step.specs.Integers.{less_signed}

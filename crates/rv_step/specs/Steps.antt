@@ -1,16 +1,19 @@
 -- What each instruction does to a hart and reports (Unprivileged ISA 20191213; MRET and WFI: Volume
 -- II, sections 3.2.2 and 3.2.3; the profile of traps is this project's own).
-use Rattle.std.specs.Prelude.{ℕ, ◌≡◌, ◌+◌, ◌%◌, ◌^◌, ◌==◌, List, [], ◌∷◌, length, Option, Some, None, MatchOption, if◌then◌else◌}
+use Rattle.std.specs.Prelude.{ℕ, ◌≡◌, ◌+◌, ◌%◌, ◌^◌, ◌==◌, List, [], ◌∷◌, length, slice_set, Option, Some, None}
+use Rattle.std.specs.Prelude.{MatchOption, if◌then◌else◌}
 use Rattle.std.specs.Int.{w64, cast_unsigned}
 use Rattle.tandem_base.specs.Bytes.{little_endian}
 use Rattle.tandem_base.specs.Signs.{sign_extended}
-use Rattle.csr_file.specs.CsrFile.{kept, written, trapped, returned}
+use Rattle.csr_file.specs.CsrFile.{CsrValues, kept, written, trapped, returned}
 use Rattle.tandem_base.specs.CsrNumbers as csr
 use Rattle.msg_frames.specs.declared.csrs.CsrValue.{CsrValue}
 use Rattle.msg_frames.specs.declared.message.RdValue.{RdValue}
 use Rattle.rv_decode.specs.declared.operations.CsrOp.{CsrOp}
 use Rattle.rv_decode.specs.declared.instruction.Insn.{Insn}
-use Rattle.rv_decode.specs.declared.instruction.Insn.TheVariants.{Lui, Auipc, Jal, Jalr, Branch, Load, Store, AluImm, Alu, Fence, Ecall, Ebreak, Mret, Wfi, Csr, Lr, Sc, Amo}
+use Rattle.rv_decode.specs.declared.instruction.Insn.TheVariants.{Lui, Auipc, Jal, Jalr, Branch, Load, Store, AluImm}
+use Rattle.rv_decode.specs.declared.instruction.Insn.TheVariants.{Alu, Fence, Ecall, Ebreak, Mret, Wfi, Csr, Lr, Sc}
+use Rattle.rv_decode.specs.declared.instruction.Insn.TheVariants.{Amo}
 use Rattle.rv_step.specs.Causes.{breakpoint, environment_call}
 use Rattle.rv_step.specs.declared.effect.Effect.{Effect}
 use Rattle.rv_step.specs.declared.effect.Outside.{Outside}
@@ -36,11 +39,15 @@ csr_value number value = record { number = number; value = value }
 abbrev pub one_more : ℕ → ℕ
 one_more retired = (retired + 1) % 2 ^ 64
 
+-- the report of an instruction that goes on at an address, and writes that register
+abbrev pub reports : ℕ → Option RdValue → Effect
+reports next rd = record { next = next; rd = rd; csrs = []; store = None; trap = None }
+
 -- goes on at an address
 abbrev pub goes : HartState → ℕ → Done
 goes hart next = record {
   hart = record hart { pc = next; retired = one_more hart.retired };
-  effect = record { next = next; rd = None; csrs = []; store = None; trap = None };
+  effect = reports next None;
 }
 
 -- writes a value to rd, and goes on at an address
@@ -51,7 +58,7 @@ writes hart next rd value = record {
     registers = with_x hart.registers rd value;
     retired = one_more hart.retired;
   };
-  effect = record { next = next; rd = rd_written rd value; csrs = []; store = None; trap = None };
+  effect = reports next (rd_written rd value);
 }
 
 -- the same, and stores bytes at an address
@@ -66,6 +73,12 @@ sets_csr done number value = record {
   effect = record done.effect { csrs = csr_value number (kept number value) ∷ [] };
 }
 
+-- the four CSRs that a trap wrote
+abbrev pub trap_csrs : CsrValues → List CsrValue
+trap_csrs csrs =
+    csr_value csr.mstatus csrs.mstatus ∷ csr_value csr.mepc csrs.mepc ∷ csr_value csr.mcause csrs.mcause
+    ∷ csr_value csr.mtval csrs.mtval ∷ []
+
 -- takes a trap: it retires nothing, and reports the four CSRs that the trap wrote
 abbrev pub traps : HartState → ℕ → ℕ → Done
 traps hart cause value =
@@ -74,8 +87,7 @@ traps hart cause value =
       effect = record {
         next = csrs.mtvec;
         rd = None;
-        csrs = csr_value csr.mstatus csrs.mstatus ∷ csr_value csr.mepc csrs.mepc ∷ csr_value csr.mcause csrs.mcause
-            ∷ csr_value csr.mtval csrs.mtval ∷ [];
+        csrs = trap_csrs csrs;
         store = None;
         trap = Some cause;
       };
@@ -187,3 +199,27 @@ IsLoaded outside (store insn addr len) = Unit {0}
 IsLoaded outside (lr insn addr len) = HasLoaded outside len
 IsLoaded outside (sc insn addr len) = Unit {0}
 IsLoaded outside (amo insn addr len) = HasLoaded outside len
+
+-- the registers after a reported value
+abbrev pub register_set : List ℕ → Option RdValue → List ℕ
+register_set registers None = registers
+register_set registers (Some rd) = slice_set registers rd.number rd.value
+
+-- the CSRs after the reported ones are written, in their order
+unfoldable pub csrs_set : CsrValues → List CsrValue → CsrValues
+csrs_set csrs [] = csrs
+csrs_set csrs (c ∷ rest) = csrs_set (written csrs c.number c.value) rest
+
+-- the count of retired instructions after a report: a trap retires nothing
+abbrev pub retired_after : ℕ → Option ℕ → ℕ
+retired_after retired None = one_more retired
+retired_after retired (Some cause) = retired
+
+-- a hart that becomes what a report says
+abbrev pub committed : HartState → Effect → HartState
+committed hart effect = record {
+  pc = effect.next;
+  registers = register_set hart.registers effect.rd;
+  csrs = csrs_set hart.csrs effect.csrs;
+  retired = retired_after hart.retired effect.trap;
+}

@@ -19,7 +19,7 @@ impl Outside {
     ghost use Rattle.rv_step.specs.Steps.{number_loaded};
 
     /// The number in the loaded bytes, lowest byte first; 0 where there are none.
-    pub fn number(&self) -> u64
+    pub(crate) fn number(&self) -> u64
         ensures { result ≡ number_loaded self.now }
     {
         match self.load {

@@ -1,16 +1,17 @@
 //! A hart: its pc, its registers and its CSRs.
 
 ghost use Rattle.std.specs.Prelude.{◌≡◌, ◌%◌, ◌<◌, slice_index};
-ghost use Rattle.rv_step.specs.Harts.{at_start, poked, x_of};
+ghost use Rattle.rv_step.specs.Harts.{at_start, next_of, poked, x_of};
 ghost use Rattle.msg_frames.specs.Frames.{FitsTarget};
 
 use csr_file::Csrs;
 use msg_frames::{Poke, Target};
 use std::marker::Model;
 
-mod finishing;
+mod committing;
+mod csr_use;
+mod effects;
 mod planning;
-mod steps;
 
 /// A hart of the reference model. Contracts see its pc, its registers, its CSRs, and how many
 /// instructions it retired without a trap.
@@ -52,7 +53,8 @@ impl Hart {
 
     /// The address of the hart's next instruction, a multiple of 4.
     pub fn pc(&self) -> u64
-        ensures { result ≡ self.now.pc }
+        ensures value { result ≡ self.now.pc }
+        ensures aligned { result % 4 ≡ 0 }
     {
         self.pc
     }
@@ -77,5 +79,13 @@ impl Hart {
         ensures { result ≡ x_of self.now number }
     {
         self.registers[number as usize]
+    }
+
+    /// The address of the word behind the instruction.
+    fn next(&self) -> u64
+        ensures value { result ≡ next_of self.now }
+        ensures aligned { result % 4 ≡ 0 }
+    {
+        self.pc.wrapping_add(4)
     }
 }

@@ -1,7 +1,8 @@
 //! The results of the integer instructions.
 
 ghost use Rattle.std.specs.Prelude.{◌≡◌, ◌<◌};
-ghost use Rattle.rv_step.specs.Integers.{alu_result, with_register, is_taken, less_signed, low_word, sra_of, without_low_bit};
+ghost use Rattle.rv_step.specs.Integers.{alu_result, with_register, is_taken, less_signed, low_word, sra_of};
+ghost use Rattle.rv_step.specs.Integers.{without_low_bit};
 
 use rv_decode::{BranchOp, ImmOp, RegOp};
 use tandem_base::{div, div32, divu, divu32, mulh, mulhsu, mulhu, rem, rem32, remu, remu32, sext};

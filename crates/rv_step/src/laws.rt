@@ -2,7 +2,9 @@
 
 ghost use Rattle.std.specs.Prelude.{◌≡◌};
 ghost use Rattle.rv_step.specs.Causes as cause;
-ghost use Rattle.rv_step.specs.declared.causes.TheConstants.{MISALIGNED_FETCH, FETCH_FAULT, ILLEGAL_INSTRUCTION, BREAKPOINT, MISALIGNED_LOAD, LOAD_FAULT, MISALIGNED_STORE, STORE_FAULT, ENVIRONMENT_CALL};
+ghost use Rattle.rv_step.specs.declared.causes.TheConstants.{MISALIGNED_FETCH, FETCH_FAULT, ILLEGAL_INSTRUCTION};
+ghost use Rattle.rv_step.specs.declared.causes.TheConstants.{BREAKPOINT, MISALIGNED_LOAD, LOAD_FAULT, MISALIGNED_STORE};
+ghost use Rattle.rv_step.specs.declared.causes.TheConstants.{STORE_FAULT, ENVIRONMENT_CALL};
 
 /// The constants are the numbers of the definitions.
 pub fn causes_have_their_numbers()

@@ -1,12 +1,11 @@
 //! The step of a hart: what the instruction at its pc is to do, and what it does.
 //!
-//! `Hart::plan` fetches, decodes and finds the trap or the access; `Hart::finish` does what the
-//! plan says, with the values that come from outside.
+//! `Hart::plan` fetches, decodes and finds the trap or the access. `Hart::effect` works out what the
+//! plan reports, with the values that come from outside; `Hart::commit` makes the hart what a report
+//! says; and `Hart::finish` does both.
 #![tactic(auto)]
 
-mod accesses;
-pub mod causes;
-mod csr_use;
+mod causes;
 mod effect;
 mod hart;
 mod integers;

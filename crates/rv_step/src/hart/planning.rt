@@ -1,30 +1,46 @@
 //! What the instruction at a hart's pc is to do.
 
-ghost use Rattle.elf_image.specs.Images.{loaded_of};
-ghost use Rattle.std.specs.Prelude.{◌≡◌, ℕ, true};
+ghost use Rattle.std.specs.Prelude.{◌≡◌, ◌<◌, ◌^◌, true, IfSome};
+ghost use Rattle.elf_image.specs.Images.{Holds, loaded_of};
 ghost use Rattle.rv_decode.specs.Decoding.{decoding};
 ghost use Rattle.rv_decode.specs.Listing.{IsInsn};
+ghost use Rattle.rv_step.specs.Plans.{accesses, address_of, doing_of, doing_seen, doing_word, illegal, is_access};
+ghost use Rattle.rv_step.specs.Plans.{jumps, plan_of};
+ghost use Rattle.rv_step.specs.Plans.{plan_seen};
+ghost use Rattle.rv_step.specs.Promises.{HasCsr, IsAlignedAtomic, IsOfKind, IsTarget, extent_of, insn_of};
 ghost use Rattle.rv_step.specs.Steps.{trap};
-ghost use Rattle.rv_step.specs.Plans.{Suits, accesses, doing_of, doing_seen, doing_word, illegal, jumps, plan_of, plan_seen};
 
 use super::Hart;
-use crate::accesses::{changing, loading, reserving, storing, storing_reserved};
+use super::csr_use::counts_outside;
 use crate::causes::{
     BREAKPOINT, ENVIRONMENT_CALL, FETCH_FAULT, ILLEGAL_INSTRUCTION, MISALIGNED_FETCH,
 };
-use crate::csr_use::{counts_outside, is_legal};
 use crate::integers::{even, taken};
-use crate::memory::{bytes_atomic, bytes_loaded, bytes_stored};
+use crate::memory::{access, access_len, causes_of, must_align, undertaken};
 use crate::plan::{Config, Plan, What};
 use elf_image::Image;
 use rv_decode::{Insn, decode};
 
 impl Hart {
     /// Fetches and decodes the word at the pc, and finds the trap that it raises or the bytes that
-    /// it accesses.
+    /// it accesses. These don't pass 2^64, and are in the image; an LR, SC or AMO is aligned, a CSR
+    /// is there and may be used so, and a jump that is taken goes to a multiple of 4.
     pub fn plan(&self, image: &Image, config: &Config) -> Plan
         ensures value { plan_seen result ≡ plan_of self.now (loaded_of image.now) config.now }
-        ensures suits { Suits self.now (doing_seen result.what) }
+        ensures fits { IfSome (insn_of (doing_seen result.what)) IsInsn }
+        ensures kind { IsOfKind (doing_seen result.what) }
+        ensures held { IfSome (extent_of result.what) (Holds (loaded_of image.now)) }
+        ensures aligned { IsAlignedAtomic (doing_seen result.what) }
+        ensures csr { IfSome (insn_of (doing_seen result.what)) HasCsr }
+        ensures target { IfSome (insn_of (doing_seen result.what)) (IsTarget self.now) }
+    {
+        self.fetched(image, config)
+    }
+
+    /// The same, without what follows.
+    fn fetched(&self, image: &Image, config: &Config) -> Plan
+        ensures value { plan_seen result ≡ plan_of self.now (loaded_of image.now) config.now }
+        ensures fits { result.word < 2 ^ 32 }
     {
         match image.word(self.pc) {
             Some(word) => Plan {
@@ -41,11 +57,10 @@ impl Hart {
         }
     }
 
-    #[tactic(auto, using(crate::proofs::Suited::suits_by))]
+    /// What a word is to do.
     fn what(&self, image: &Image, config: &Config, word: u32) -> What
-        ensures value { doing_seen result
+        ensures { doing_seen result
             ≡ doing_word self.now (loaded_of image.now) config.now word (decoding word) }
-        ensures suits { Suits self.now (doing_seen result) }
     {
         match decode(word) {
             Some(insn) => self.what_of(image, config, word, insn),
@@ -53,6 +68,7 @@ impl Hart {
         }
     }
 
+    /// What an instruction is to do.
     fn what_of(&self, image: &Image, config: &Config, word: u32, insn: Insn) -> What
         requires { IsInsn insn }
         ensures { doing_seen result ≡ doing_of self.now (loaded_of image.now) config.now word insn }
@@ -62,12 +78,8 @@ impl Hart {
             Insn::Jalr { rs1, imm, .. } => {
                 jump(insn, even(self.x(rs1).wrapping_add_signed(imm)))
             }
-            Insn::Branch { op, rs1, rs2, imm } => {
-                if taken(op, self.x(rs1), self.x(rs2)) {
-                    jump(insn, self.pc.wrapping_add_signed(imm))
-                } else {
-                    What::Plain(insn)
-                }
+            Insn::Branch { op, rs1, rs2, imm } if taken(op, self.x(rs1), self.x(rs2)) => {
+                jump(insn, self.pc.wrapping_add_signed(imm))
             }
             Insn::Ecall => raised(ENVIRONMENT_CALL),
             Insn::Ebreak => raised(BREAKPOINT),
@@ -76,15 +88,8 @@ impl Hart {
                 source,
                 number,
                 ..
-            } => {
-                if !is_legal(&self.csrs, op, source, number) {
-                    illegal_word(config, word)
-                } else if counts_outside(number) {
-                    What::Counter(insn)
-                } else {
-                    What::Plain(insn)
-                }
-            }
+            } if !self.may_use(op, source, number) => illegal_word(config, word),
+            Insn::Csr { number, .. } if counts_outside(number) => What::Counter(insn),
             Insn::Load { .. }
             | Insn::Store { .. }
             | Insn::Lr { .. }
@@ -94,29 +99,30 @@ impl Hart {
         }
     }
 
+    /// What an instruction that accesses memory is to do.
     fn what_accessed(&self, image: &Image, config: &Config, insn: Insn) -> What
         requires fits { IsInsn insn }
-        requires accesses { accesses insn ≡ true }
-        ensures { (word : ℕ) → doing_seen result ≡ doing_of self.now (loaded_of image.now) config.now word insn }
+        requires access { is_access insn ≡ true }
+        ensures { doing_seen result ≡ accesses self.now (loaded_of image.now) config.now insn }
     {
-        match insn {
-            Insn::Load { op, rs1, imm, .. } => {
-                let addr = self.x(rs1).wrapping_add_signed(imm);
-                loading(image, config.traps_misaligned, insn, addr, bytes_loaded(op))
-            }
-            Insn::Store { op, rs1, imm, .. } => {
-                let addr = self.x(rs1).wrapping_add_signed(imm);
-                storing(image, config.traps_misaligned, insn, addr, bytes_stored(op))
-            }
-            Insn::Lr { wide, rs1, .. } => {
-                reserving(image, insn, self.x(rs1), bytes_atomic(wide))
-            }
-            Insn::Sc { wide, rs1, .. } => {
-                storing_reserved(image, insn, self.x(rs1), bytes_atomic(wide))
-            }
-            Insn::Amo { wide, rs1, .. } => {
-                changing(image, insn, self.x(rs1), bytes_atomic(wide))
-            }
+        let addr = self.address_of(&insn);
+        let aligned = must_align(config, &insn);
+        match access(image, aligned, causes_of(&insn), addr, access_len(&insn)) {
+            Ok(extent) => undertaken(insn, extent),
+            Err(cause) => What::Trap { cause, value: addr },
+        }
+    }
+
+    /// The address that an instruction accesses.
+    fn address_of(&self, insn: &Insn) -> u64
+        requires fits { IsInsn insn.now }
+        requires access { is_access insn.now ≡ true }
+        ensures { result ≡ address_of self.now insn.now }
+    {
+        match *insn {
+            Insn::Load { rs1, imm, .. } => self.x(rs1).wrapping_add_signed(imm),
+            Insn::Store { rs1, imm, .. } => self.x(rs1).wrapping_add_signed(imm),
+            Insn::Lr { rs1, .. } | Insn::Sc { rs1, .. } | Insn::Amo { rs1, .. } => self.x(rs1),
             _ => unreachable!(),
         }
     }

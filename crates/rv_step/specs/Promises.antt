@@ -1,0 +1,133 @@
+-- What a plan says of the instruction that doesn't trap.
+use Rattle.std.specs.Prelude.{ℕ, ◌≡◌, ◌%◌, Bool, true, false, not, ◌&&◌, IfSome}
+use Rattle.std.specs.Prelude.{Option, Some, None, if◌then◌else◌}
+use Rattle.tandem_base.specs.declared.extent.Extent.{Extent}
+use Rattle.csr_file.specs.CsrFile.{is_csr, is_read_only}
+use Rattle.rv_decode.specs.Registers.{writes_csr}
+use Rattle.rv_decode.specs.declared.instruction.Insn.{Insn}
+use Rattle.rv_decode.specs.declared.instruction.Insn.TheVariants.{Lui, Auipc, Jal, Jalr, Branch, Load, Store, AluImm}
+use Rattle.rv_decode.specs.declared.instruction.Insn.TheVariants.{Alu, Fence, Ecall, Ebreak, Mret, Wfi, Csr, Lr, Sc}
+use Rattle.rv_decode.specs.declared.instruction.Insn.TheVariants.{Amo}
+use Rattle.rv_step.specs.declared.plan.What.{What}
+use Rattle.rv_step.specs.declared.plan.What.TheVariants as what
+use Rattle.rv_step.specs.CsrUse.{is_counter}
+use Rattle.rv_step.specs.Harts.{HartState, x_of, plus}
+use Rattle.rv_step.specs.Integers.{is_taken, without_low_bit}
+use Rattle.rv_step.specs.Plans.{access_size}
+use Rattle.rv_step.specs.Steps.{Doing, trap, plain, counter, load, store, lr, sc, amo}
+
+-- the instruction, none of a trap
+abbrev pub insn_of : Doing → Option Insn
+insn_of (trap cause value) = None
+insn_of (plain insn) = Some insn
+insn_of (counter insn) = Some insn
+insn_of (load insn addr len) = Some insn
+insn_of (store insn addr len) = Some insn
+insn_of (lr insn addr len) = Some insn
+insn_of (sc insn addr len) = Some insn
+insn_of (amo insn addr len) = Some insn
+
+-- the bytes that it accesses
+abbrev pub extent_of : What → Option Extent
+extent_of (what.Trap cause value) = None
+extent_of (what.Plain insn) = None
+extent_of (what.Counter insn) = None
+extent_of (what.Load insn extent) = Some extent
+extent_of (what.Store insn extent) = Some extent
+extent_of (what.Lr insn extent) = Some extent
+extent_of (what.Sc insn extent) = Some extent
+extent_of (what.Amo insn extent) = Some extent
+
+-- a load, but LR
+abbrev pub is_load : Insn → Bool
+is_load (Load op rd rs1 imm) = true
+is_load _ = false
+
+-- a store, but SC
+abbrev pub is_store : Insn → Bool
+is_store (Store op rs1 rs2 imm) = true
+is_store _ = false
+
+abbrev pub is_lr : Insn → Bool
+is_lr (Lr wide aq rl rd rs1) = true
+is_lr _ = false
+
+abbrev pub is_sc : Insn → Bool
+is_sc (Sc wide aq rl rd rs1 rs2) = true
+is_sc _ = false
+
+abbrev pub is_amo : Insn → Bool
+is_amo (Amo op wide aq rl rd rs1 rs2) = true
+is_amo _ = false
+
+-- a CSR instruction that reads cycle or time
+abbrev pub reads_counter : Insn → Bool
+reads_counter (Csr op rd source number) = is_counter number
+reads_counter _ = false
+
+-- ECALL or EBREAK
+abbrev pub is_call : Insn → Bool
+is_call Ecall = true
+is_call Ebreak = true
+is_call _ = false
+
+-- an instruction that accesses no memory, calls no environment and needs nothing from outside
+abbrev pub is_plain : Insn → Bool
+is_plain (Lui rd imm) = true
+is_plain (Auipc rd imm) = true
+is_plain (Jal rd imm) = true
+is_plain (Jalr rd rs1 imm) = true
+is_plain (Branch op rs1 rs2 imm) = true
+is_plain (Load op rd rs1 imm) = false
+is_plain (Store op rs1 rs2 imm) = false
+is_plain (AluImm op rd rs1 imm) = true
+is_plain (Alu op rd rs1 rs2) = true
+is_plain (Fence fm pred succ rd rs1) = true
+is_plain Ecall = false
+is_plain Ebreak = false
+is_plain Mret = true
+is_plain Wfi = true
+is_plain (Csr op rd source number) = not (is_counter number)
+is_plain (Lr wide aq rl rd rs1) = false
+is_plain (Sc wide aq rl rd rs1 rs2) = false
+is_plain (Amo op wide aq rl rd rs1 rs2) = false
+
+-- the instruction is of the kind that is said, and an access has as many bytes as it covers
+abbrev pub IsOfKind : Doing → Type 0
+IsOfKind (trap cause value) = Unit {0}
+IsOfKind (plain insn) = is_plain insn ≡ true
+IsOfKind (counter insn) = reads_counter insn ≡ true
+IsOfKind (load insn addr len) = (is_load insn ≡ true) × (len ≡ access_size insn)
+IsOfKind (store insn addr len) = (is_store insn ≡ true) × (len ≡ access_size insn)
+IsOfKind (lr insn addr len) = (is_lr insn ≡ true) × (len ≡ access_size insn)
+IsOfKind (sc insn addr len) = (is_sc insn ≡ true) × (len ≡ access_size insn)
+IsOfKind (amo insn addr len) = (is_amo insn ≡ true) × (len ≡ access_size insn)
+
+-- LR, SC and AMO are aligned
+abbrev pub IsAlignedAtomic : Doing → Type 0
+IsAlignedAtomic (trap cause value) = Unit {0}
+IsAlignedAtomic (plain insn) = Unit {0}
+IsAlignedAtomic (counter insn) = Unit {0}
+IsAlignedAtomic (load insn addr len) = Unit {0}
+IsAlignedAtomic (store insn addr len) = Unit {0}
+IsAlignedAtomic (lr insn addr len) = addr % len ≡ 0
+IsAlignedAtomic (sc insn addr len) = addr % len ≡ 0
+IsAlignedAtomic (amo insn addr len) = addr % len ≡ 0
+
+-- the number of a CSR instruction is one of the twelve, and not that of a read-only CSR where it writes
+abbrev pub HasCsr : Insn → Type 0
+HasCsr (Csr op rd source number) =
+    (is_csr number ≡ true) × ((writes_csr op source && is_read_only number) ≡ false)
+HasCsr _ = Unit {0}
+
+-- where a jump goes, and a branch that is taken
+abbrev pub target_of : HartState → Insn → Option ℕ
+target_of hart (Jal rd imm) = Some (plus hart.pc imm)
+target_of hart (Jalr rd rs1 imm) = Some (without_low_bit (plus (x_of hart rs1) imm))
+target_of hart (Branch op rs1 rs2 imm) =
+    if is_taken op (x_of hart rs1) (x_of hart rs2) then Some (plus hart.pc imm) else None
+target_of hart _ = None
+
+-- it is a multiple of 4
+abbrev pub IsTarget : HartState → Insn → Type 0
+IsTarget hart insn = IfSome (target_of hart insn) (λ target. target % 4 ≡ 0)
