@@ -1,16 +1,18 @@
 -- What is answered where no count of faults rose.
-use Rattle.std.proofs.Common.{◌≡◌, ℕ, ◌-◌, ◌^◌, ◌<◌, ◌≤◌, inl, inr, List, sym, ap, subst, ◌∙◌, arith, Option, None, Some}
+use Rattle.std.proofs.Common.{◌≡◌, ℕ, ◌-◌, ◌^◌, ◌<◌, ◌≤◌, inl, inr, List, refl, sym, ap, subst, ◌∙◌, arith, Option, None, Some}
 use Rattle.std.specs.Prelude.{IfSome}
 use Rattle.std.specs.Io.KnownBytes.{Appends}
-use Rattle.tandem_io.specs.declared.types.Slot.TheVariants as slot
+use Rattle.std.proofs.KnownBytes.{Appends-nil}
 use Rattle.tandem_io.specs.Causes.{Rose}
 use Rattle.tandem_io.specs.Inputs.{Named, Slots}
 use Rattle.verdict_report.specs.declared.verdict.Verdict.{Verdict}
+use Rattle.tandem_cli.specs.declared.outcome.NoImage.TheVariants as no_image
+use Rattle.tandem_cli.specs.declared.outcome.NoVerdict.TheVariants as no_verdict
 use Rattle.tandem_cli.specs.declared.outcome.Outcome.{Outcome}
 use Rattle.tandem_cli.specs.declared.outcome.Outcome.TheVariants as outcome
 use Rattle.tandem_cli.specs.Words.{Asked}
 use Rattle.tandem_cli.specs.Checks.{answer_of, answer_to_file, answer_to_image, answer_to_stream, IsJudged, OutcomeIs, Caused}
-use Rattle.tandem_cli.specs.Answers.{line_for, status_for, Prints, Answers, IsQuiet, Settled, refused, answered}
+use Rattle.tandem_cli.specs.Answers.{line_for, status_for, Prints, ChecksAs, NoFaultRose, Settled, AnswersUsage, AnswersTo, refused, answered}
 
 -- a count that didn't rise
 not_risen : (before after : ℕ) → after ≤ before → before < 2 ^ 64 - 1 → Rose before after → ⊥
@@ -37,27 +39,32 @@ verdict_is asked names v left judged =
 
 settled_by : (asked : Asked) (names : List Named) (slots slots' : Slots) (result : ℕ) (old new : Option (List ℕ))
     (before after : ℕ) (o : Outcome) → OutcomeIs asked names o slots'.stream.left → Caused o slots slots' →
-    IsQuiet slots slots' before after → result ≡ status_for o → Appends old new (line_for asked o) →
+    NoFaultRose slots slots' before after → result ≡ status_for o → Appends old new (line_for asked o) →
     Settled asked names slots' result old new
-settled_by asked names slots slots' result old new before after (outcome.Missing missing) is caused quiet status line =
-    settle asked names slots' result old new (outcome.Missing missing) is status line is
-settled_by asked names slots slots' result old new before after (outcome.Unopened slot.Image) is caused quiet status line =
-    absurd (not_risen slots.image.faults slots'.image.faults quiet.image.0 quiet.image.1 caused.0)
-settled_by asked names slots slots' result old new before after (outcome.Unopened slot.Stream) is caused quiet status line =
-    absurd (not_risen slots.stream.faults slots'.stream.faults quiet.stream.0 quiet.stream.1 caused.0)
-settled_by asked names slots slots' result old new before after (outcome.Unread slot.Image) is caused quiet status line =
-    absurd (not_risen slots.image.faults slots'.image.faults quiet.image.0 quiet.image.1 caused.0)
-settled_by asked names slots slots' result old new before after (outcome.Unread slot.Stream) is caused quiet status line =
-    absurd (not_risen slots.stream.faults slots'.stream.faults quiet.stream.0 quiet.stream.1 caused.0)
-settled_by asked names slots slots' result old new before after (outcome.Refused fault) is caused quiet status line =
-    settle asked names slots' result old new (outcome.Refused fault) is status line is
+settled_by asked names slots slots' result old new before after (outcome.Unloaded no_image.Missing) is caused quiet status line =
+    settle asked names slots' result old new (outcome.Unloaded no_image.Missing) is status line is
+settled_by asked names slots slots' result old new before after (outcome.Unloaded no_image.Unopened) is caused quiet status line =
+    absurd (not_risen slots.image.faults slots'.image.faults quiet.image.0 quiet.image.1 caused.0.0)
+settled_by asked names slots slots' result old new before after (outcome.Unloaded no_image.Unread) is caused quiet status line =
+    absurd (not_risen slots.image.faults slots'.image.faults quiet.image.0 quiet.image.1 caused.0.0)
+settled_by asked names slots slots' result old new before after (outcome.Unloaded (no_image.Refused fault)) is caused quiet status line =
+    settle asked names slots' result old new (outcome.Unloaded (no_image.Refused fault)) is status line is
+settled_by asked names slots slots' result old new before after (outcome.Unloaded no_image.Memory) is caused quiet status line =
+    refused status line
+settled_by asked names slots slots' result old new before after (outcome.Unjudged no_verdict.Missing) is caused quiet status line =
+    settle asked names slots' result old new (outcome.Unjudged no_verdict.Missing) is status line is
+settled_by asked names slots slots' result old new before after (outcome.Unjudged no_verdict.Unopened) is caused quiet status line =
+    absurd (not_risen slots.stream.faults slots'.stream.faults quiet.stream.0 quiet.stream.1 caused.0.0)
+settled_by asked names slots slots' result old new before after (outcome.Unjudged no_verdict.Unread) is caused quiet status line =
+    absurd (not_risen slots.stream.faults slots'.stream.faults quiet.stream.0 quiet.stream.1 caused.0.0)
+settled_by asked names slots slots' result old new before after (outcome.Unjudged no_verdict.Memory) is caused quiet status line =
+    refused status line
 settled_by asked names slots slots' result old new before after (outcome.Judged v) is caused quiet status line =
     settle asked names slots' result old new (outcome.Judged v) (verdict_is asked names v slots'.stream.left is) status line is
-settled_by asked names slots slots' result old new before after outcome.Memory is caused quiet status line = refused status line
 
 settled_prints : (asked : Asked) (names : List Named) (slots slots' : Slots) (result : ℕ) (old new : Option (List ℕ))
     (before after : ℕ) (o : Outcome) → OutcomeIs asked names o slots'.stream.left → Caused o slots slots' →
-    IsQuiet slots slots' before after → Prints (line_for asked o) (status_for o) result old new before after →
+    NoFaultRose slots slots' before after → Prints (line_for asked o) (status_for o) result old new before after →
     Settled asked names slots' result old new
 settled_prints asked names slots slots' result old new before after o is caused quiet (inl printed) =
     settled_by asked names slots slots' result old new before after o is caused quiet printed.0 printed.1
@@ -66,15 +73,44 @@ settled_prints asked names slots slots' result old new before after o is caused 
 
 -- where no count rose, every answer is the one answer, or that memory was refused
 pub settled : (asked : Asked) (names : List Named) (slots slots' : Slots) (result : ℕ) (old new : Option (List ℕ))
-    (before after : ℕ) → Answers asked (Some names) slots slots' result old new before after →
-    IsQuiet slots slots' before after → Settled asked names slots' result old new
+    (before after : ℕ) → ChecksAs asked (Some names) slots slots' result old new before after →
+    NoFaultRose slots slots' before after → Settled asked names slots' result old new
 settled asked names slots slots' result old new before after answers quiet =
     settled_prints asked names slots slots' result old new before after answers.outcome answers.is answers.caused quiet answers.prints
 
 -- the same, where the names are told
 pub settled_told : (asked : Asked) (names : Option (List Named)) (slots slots' : Slots) (result : ℕ) (old new : Option (List ℕ))
-    (before after : ℕ) → Answers asked names slots slots' result old new before after →
-    IfSome names (λ files. IsQuiet slots slots' before after → Settled asked files slots' result old new)
+    (before after : ℕ) → ChecksAs asked names slots slots' result old new before after →
+    IfSome names (λ files. NoFaultRose slots slots' before after → Settled asked files slots' result old new)
 settled_told asked None slots slots' result old new before after answers = tt
 settled_told asked (Some files) slots slots' result old new before after answers =
     λ quiet. settled asked files slots slots' result old new before after answers quiet
+
+-- memory was refused before anything was attached
+pub memory_refused : (asked : Asked) (names : Option (List Named)) (slots : Slots) (written : Option (List ℕ)) (faults : ℕ) →
+    ChecksAs asked names slots slots 7 written written faults faults
+memory_refused asked names slots written faults = record {
+  outcome = outcome.Unloaded no_image.Memory;
+  is = nothing_said names;
+  caused = (tt, refl);
+  prints = inl (refl, Appends-nil written);
+}
+  where
+    nothing_said : (names : Option (List Named)) → IfSome names (λ files. Unit {0})
+    nothing_said None = tt
+    nothing_said (Some files) = tt
+
+-- the answer to words, by what is answered to words of another form, and of the form of `check`
+pub answers_to : (o : Option Asked) (names : Option (List Named)) (slots slots' : Slots) (result : ℕ)
+    (old new : Option (List ℕ)) (before after : ℕ) →
+    (o ≡ None → AnswersUsage result old new before after) → (o ≡ None → slots' ≡ slots) →
+    ((a : Asked) → o ≡ Some a → ChecksAs a names slots slots' result old new before after) →
+    AnswersTo o names slots slots' result old new before after
+answers_to None names slots slots' result old new before after usage same checks = (usage refl, same refl)
+answers_to (Some a) names slots slots' result old new before after usage same checks = checks a refl
+
+-- the answer to words for which memory was refused
+pub words_refused : (o : Option Asked) (names : Option (List Named)) (slots : Slots) (written : Option (List ℕ)) (faults : ℕ) →
+    AnswersTo o names slots slots 7 written written faults faults
+words_refused None names slots written faults = (inl (refl, Appends-nil written), refl)
+words_refused (Some a) names slots written faults = memory_refused a names slots written faults

@@ -1,53 +1,59 @@
 -- What the readings of the inputs come to.
-use Rattle.std.proofs.Common.{◌≡◌, ℕ, ◌<◌, ◌⊎◌, inl, inr, List, ◌++◌, length, drop, refl, sym, ap, subst, ◌∙◌, arith, Option, None, Some, Result, Ok, Err, IsOkAnd, append-nil, length-append}
+use Rattle.std.proofs.Common.{◌≡◌, ℕ, ◌+◌, ◌-◌, ◌^◌, ◌<◌, ◌≤◌, ◌⊎◌, inl, inr, List, ◌++◌, length, drop, refl, sym, ap, subst, ◌∙◌, arith, Option, None, Some, Result, Ok, Err, append-nil, length-append}
 use Rattle.std.specs.Prelude.{nat_lt, Bool, true, false, is_some, IfSome, MatchBool}
 use Rattle.std.specs.Io.KnownBytes.{Consumes, Keeps, IsAtEnd}
+use Rattle.std.proofs.Math.Nat.{eq-or-lt_of_le}
 use Rattle.std.proofs.Math.Seq.{drop-append_seam}
 use Rattle.std.proofs.lemmas.Bool.{lt-ltb, cond-true}
-use Rattle.tandem_io.specs.declared.types.Slot.TheVariants as slot
-use Rattle.tandem_io.specs.Inputs.{Named, content_of}
+use Rattle.tandem_io.specs.Causes.{Rose}
+use Rattle.tandem_io.specs.Inputs.{Named, SlotView, content_of}
 use Rattle.elf_image.specs.declared.fault.ImageFault.{ImageFault}
 use Rattle.elf_image.specs.declared.fault.ImageFault.TheVariants as image_fault
 use Rattle.elf_image.specs.declared.fault.TooLarge.TheVariants as limit
-use Rattle.elf_image.specs.Images.{ImageOf, SameImage}
+use Rattle.elf_image.specs.declared.limits.TheConstants.{MOST_FILE_BYTES}
+use Rattle.elf_image.specs.Images.{ImageOf, Loaded, loaded_of}
 use Rattle.elf_image.specs.Faults.{Reads, file_fault}
 use Rattle.verdict_report.specs.declared.verdict.Verdict.{Verdict}
+use Rattle.tandem_core.specs.declared.judging.Unjudged.{Unjudged}
+use Rattle.tandem_core.specs.declared.judging.Unjudged.TheVariants as unjudged
 use Rattle.tandem_core.specs.Judgements.{Judgement, judgement}
-use Rattle.tandem_core.specs.Judged.{Decides, Lacks}
-use Rattle.tandem_core.proofs.SameImages.{judgement_same, lacks_same}
+use Rattle.tandem_core.specs.Judging.{JudgedIs}
+use Rattle.tandem_cli.specs.declared.outcome.NoImage.TheVariants as no_image
+use Rattle.tandem_cli.specs.declared.outcome.NoVerdict.TheVariants as no_verdict
 use Rattle.tandem_cli.specs.declared.outcome.Outcome.{Outcome}
 use Rattle.tandem_cli.specs.declared.outcome.Outcome.TheVariants as outcome
 use Rattle.tandem_cli.specs.Options.{Chosen}
 use Rattle.tandem_cli.specs.Words.{Asked}
-use Rattle.tandem_cli.specs.Checks.{meaning_at, meaning_of, answer_of, answer_to_file, answer_to_image, answer_to_stream, OutcomeIs, ImageIs, StreamIs, refusal_of, outcome_read}
+use Rattle.tandem_cli.specs.Checks.{meaning_at, meaning_of, answer_of, answer_to_file, answer_to_image, answer_to_stream, IsAccepted, OutcomeIs, ImageIs, StreamCaused, no_image_of, image_read, outcome_judged}
 
 -- ---- an image that was read whole, or as far as one is read
 
-too_large : (bytes : List ℕ) → 268435456 < length bytes → file_fault bytes ≡ Some (image_fault.TooLarge (limit.File 268435457))
-too_large bytes long = cond-true (nat_lt 268435456 (length bytes)) _ _ (lt-ltb 268435456 (length bytes) long)
+too_large : (bytes : List ℕ) → MOST_FILE_BYTES < length bytes →
+    file_fault bytes ≡ Some (image_fault.TooLarge (limit.File (MOST_FILE_BYTES + 1)))
+too_large bytes long = cond-true (nat_lt MOST_FILE_BYTES (length bytes)) _ _ (lt-ltb MOST_FILE_BYTES (length bytes) long)
 
-refused : (flat : Option ℕ) (options : Chosen) (bytes : List ℕ) → 268435456 < length bytes →
-    meaning_at flat options bytes ≡ Err (image_fault.TooLarge (limit.File 268435457))
+refused : (flat : Option ℕ) (options : Chosen) (bytes : List ℕ) → MOST_FILE_BYTES < length bytes →
+    meaning_at flat options bytes ≡ Err (image_fault.TooLarge (limit.File (MOST_FILE_BYTES + 1)))
 refused None options bytes long = rw (too_large bytes long) refl
 refused (Some base) options bytes long = rw (too_large bytes long) refl
 
 -- the bytes that were read mean what the whole file means
 pub whole_means : (options : Chosen) (read content : List ℕ) (left : Option (List ℕ)) → Consumes (Some content) left read →
-    (IsAtEnd left ⊎ (length read ≡ 268435457)) → meaning_of options read ≡ meaning_of options content
+    (IsAtEnd left ⊎ (length read ≡ MOST_FILE_BYTES + 1)) → meaning_of options read ≡ meaning_of options content
 whole_means options read content None consumed ends = absurd consumed
 whole_means options read content (Some rest) consumed (inl at_end) =
     let e : content ≡ read = consumed ∙ ap (λ (r : List ℕ). read ++ r) at_end ∙ append-nil read in
     ap (λ (b : List ℕ). meaning_of options b) (sym e)
 whole_means options read content (Some rest) consumed (inr size) =
-    let long : 268435456 < length read = omega arith in
-    let longer : 268435456 < length content = omega (arith, ap length consumed, length-append read rest) in
+    let long : MOST_FILE_BYTES < length read = omega arith in
+    let longer : MOST_FILE_BYTES < length content = omega (arith, ap length consumed, length-append read rest) in
     refused options.flat options read long ∙ sym (refused options.flat options content longer)
 
 -- ---- the answer on the image
 
-refused_is : (asked : Asked) (names : List Named) (meaning : Result ImageOf ImageFault) (fault : ImageFault) →
+refused_is : (asked : Asked) (names : List Named) (meaning : Result Loaded ImageFault) (fault : ImageFault) →
     answer_of asked names ≡ answer_to_image asked names meaning →
-    (fault ≡ image_fault.Memory) ⊎ (meaning ≡ Err fault) → ImageIs asked names (Err (refusal_of fault))
+    (fault ≡ image_fault.Memory) ⊎ (meaning ≡ Err fault) → ImageIs asked names (Err (no_image_of fault))
 refused_is asked names meaning image_fault.NotElf is (inl e) = absurd (cc)
 refused_is asked names meaning image_fault.NotElf is (inr e) = is ∙ ap (answer_to_image asked names) e
 refused_is asked names meaning image_fault.Class is (inl e) = absurd (cc)
@@ -67,11 +73,11 @@ refused_is asked names meaning (image_fault.TooLarge limit') is (inr e) = is ∙
 refused_is asked names meaning image_fault.Memory is e = tt
 
 -- what a reader answers, said of the names
-pub read_is : (asked : Asked) (names : List Named) (bytes read : List ℕ) (answer : Result ImageOf ImageFault) →
+read_is : (asked : Asked) (names : List Named) (bytes read : List ℕ) (answer : Result ImageOf ImageFault) →
     content_of names asked.image ≡ Some bytes → meaning_of asked.options read ≡ meaning_of asked.options bytes →
-    Reads answer (meaning_of asked.options read) → ImageIs asked names (outcome_read answer)
+    Reads answer (meaning_of asked.options read) → ImageIs asked names (image_read answer)
 read_is asked names bytes read (Ok image) there means reads =
-    (bytes, there, subst (λ (m : Result ImageOf ImageFault). IsOkAnd m (SameImage image)) means reads)
+    record { bytes = bytes; file = there; meaning = sym means ∙ reads }
 read_is asked names bytes read (Err fault) there means reads =
     refused_is asked names (meaning_of asked.options read) fault
     (ap (λ (found : Option (List ℕ)). answer_to_file asked names found) there
@@ -79,100 +85,24 @@ read_is asked names bytes read (Err fault) there means reads =
 
 -- a name that isn't there
 pub missing_image : (asked : Asked) (names : List Named) → content_of names asked.image ≡ None →
-    answer_of asked names ≡ outcome.Missing slot.Image
+    answer_of asked names ≡ outcome.Unloaded no_image.Missing
 missing_image asked names none = ap (λ (found : Option (List ℕ)). answer_to_file asked names found) none
-
--- ---- the answer on the stream
-
--- a verdict, said of the whole stream
-pub judged_is : (image : ImageOf) (asked : Asked) (names : List Named) (stream got : List ℕ) (left : Option (List ℕ)) (v : Verdict) →
-    content_of names asked.stream ≡ Some stream → Consumes (Some stream) left got → Decides image asked.options.limits got left v →
-    StreamIs asked image names (outcome.Judged v) left
-judged_is image asked names stream got None v there consumed decides = absurd consumed
-judged_is image asked names stream got (Some rest) v there consumed decides =
-    let j : Judgement = record { verdict = v; taken = length got } in
-    let whole : judgement image asked.options.limits (got ++ rest) ≡ j =
-    elim decides.verdict as (λ _. judgement image asked.options.limits (got ++ rest) ≡ j) [
-      | inl always ↦ always rest
-      | inr ended ↦ ap (λ (r : List ℕ). judgement image asked.options.limits (got ++ r)) ended.0
-          ∙ ap (λ (b : List ℕ). judgement image asked.options.limits b) (append-nil got) ∙ ended.1
-    ] in
-    (stream, got, rest, there, consumed, refl, ap (λ (b : List ℕ). judgement image asked.options.limits b) consumed ∙ whole)
-
--- a failed read, said of the whole stream
-pub unread_is : (image : ImageOf) (asked : Asked) (names : List Named) (stream got : List ℕ) (left : Option (List ℕ)) →
-    content_of names asked.stream ≡ Some stream → Consumes (Some stream) left got → Lacks image asked.options.limits got →
-    StreamIs asked image names (outcome.Unread slot.Stream) left
-unread_is image asked names stream got None there consumed lacks = absurd consumed
-unread_is image asked names stream got (Some rest) there consumed lacks = (stream, got, rest, there, consumed, refl, lacks)
-
--- ---- both together
-
-found_image : (asked : Asked) (names : List Named) (bytes : List ℕ) (image described : ImageOf) →
-    content_of names asked.image ≡ Some bytes → meaning_of asked.options bytes ≡ Ok described →
-    answer_of asked names ≡ answer_to_stream asked described (content_of names asked.stream)
-found_image asked names bytes image described there means =
-    ap (λ (found : Option (List ℕ)). answer_to_file asked names found) there ∙ ap (answer_to_image asked names) means
-
-joined_at : (asked : Asked) (names : List Named) (bytes : List ℕ) (image : ImageOf) (meaning : Result ImageOf ImageFault)
-    (o : Outcome) (left : Option (List ℕ)) → content_of names asked.image ≡ Some bytes →
-    meaning_of asked.options bytes ≡ meaning → IsOkAnd meaning (SameImage image) → StreamIs asked image names o left →
-    OutcomeIs asked names o left
-joined_at asked names bytes image (Err fault) o left there means same is = absurd same
-joined_at asked names bytes image (Ok described) (outcome.Missing slot.Image) left there means same is = absurd is
-joined_at asked names bytes image (Ok described) (outcome.Missing slot.Stream) left there means same is =
-    found_image asked names bytes image described there means
-    ∙ ap (λ (found : Option (List ℕ)). answer_to_stream asked described found) is
-joined_at asked names bytes image (Ok described) (outcome.Unopened slot.Image) left there means same is = absurd is
-joined_at asked names bytes image (Ok described) (outcome.Unopened slot.Stream) left there means same is =
-    (described, record { bytes = bytes; file = there; meaning = means })
-joined_at asked names bytes image (Ok described) (outcome.Unread slot.Image) left there means same is = absurd is
-joined_at asked names bytes image (Ok described) (outcome.Unread slot.Stream) left there means same (stream, got, rest, found, parts, left_is, lacks) =
-    record {
-      image = described;
-      stream = stream;
-      got = got;
-      rest = rest;
-      there = record { accepted = record { bytes = bytes; file = there; meaning = means }; stream_is = found };
-      stream_is = parts;
-      left_is = left_is;
-      lacks = lacks_same image described same asked.options.limits got lacks;
-    }
-joined_at asked names bytes image (Ok described) (outcome.Refused fault) left there means same is = absurd is
-joined_at asked names bytes image (Ok described) (outcome.Judged v) left there means same (stream, got, rest, found, parts, left_is, judged) =
-    let same_judgement : judgement described asked.options.limits stream ≡ record { verdict = v; taken = length got } =
-    sym (judgement_same image described same asked.options.limits stream) ∙ judged in
-    let after : drop (length got) stream ≡ rest =
-    ap (λ (b : List ℕ). drop (length got) b) parts ∙ drop-append_seam got rest in
-    record {
-      image = described;
-      stream = stream;
-      there = record { accepted = record { bytes = bytes; file = there; meaning = means }; stream_is = found };
-      verdict = ap (λ (j : Judgement). j.verdict) same_judgement;
-      left_is = left_is ∙ ap (λ (b : List ℕ). Some b) (sym after)
-          ∙ ap (λ (j : Judgement). Some (drop j.taken stream)) (sym same_judgement);
-    }
-joined_at asked names bytes image (Ok described) outcome.Memory left there means same is = absurd is
-
--- what is said of the image and of the stream, joined
-pub joined : (asked : Asked) (names : List Named) (image : ImageOf) (o : Outcome) (left : Option (List ℕ)) →
-    ImageIs asked names (Ok image) → StreamIs asked image names o left → OutcomeIs asked names o left
-joined asked names image o left (bytes, there, same) is =
-    joined_at asked names bytes image (meaning_of asked.options bytes) o left there refl same is
-
--- ---- where the names are told
 
 content_found : (found : Option (List ℕ)) → true ≡ is_some found → (bytes : List ℕ) × (found ≡ Some bytes)
 content_found (Some bytes) e = (bytes, refl)
 content_found None e = absurd (cc)
+
+content_none : (found : Option (List ℕ)) → false ≡ is_some found → found ≡ None
+content_none (Some bytes) e = absurd (cc)
+content_none None e = refl
 
 -- what was attached as the image and read whole
 pub whole_answer : (names : Option (List Named)) (asked : Asked) (found : Bool) (old left left' : Option (List ℕ)) (read : List ℕ)
     (answer : Result ImageOf ImageFault) → found ≡ true →
     IfSome names (λ files. found ≡ is_some (content_of files asked.image)) →
     MatchBool found (IfSome names (λ files. left ≡ content_of files asked.image)) (Keeps old left) →
-    Consumes left left' read → (IsAtEnd left' ⊎ (length read ≡ 268435457)) → Reads answer (meaning_of asked.options read) →
-    IfSome names (λ files. ImageIs asked files (outcome_read answer))
+    Consumes left left' read → (IsAtEnd left' ⊎ (length read ≡ MOST_FILE_BYTES + 1)) → Reads answer (meaning_of asked.options read) →
+    IfSome names (λ files. ImageIs asked files (image_read answer))
 whole_answer None asked found old left left' read answer is_there told holds consumed ends reads = tt
 whole_answer (Some files) asked true old left left' read answer is_there told holds consumed ends reads =
     let content = content_found (content_of files asked.image) told in
@@ -181,16 +111,114 @@ whole_answer (Some files) asked true old left left' read answer is_there told ho
     read_is asked files content.0 read answer content.1 (whole_means asked.options read content.0 left' taken ends) reads
 whole_answer (Some files) asked false old left left' read answer is_there told holds consumed ends reads = absurd (cc)
 
+-- ---- the answer on the stream
+
+-- the stream of an accepted image isn't there
+pub missing_stream : (names : Option (List Named)) (asked : Asked) (image : Loaded) (found : Bool) → found ≡ false →
+    IfSome names (λ files. found ≡ is_some (content_of files asked.stream)) →
+    IfSome names (λ files. IsAccepted asked files image → answer_of asked files ≡ outcome.Unjudged no_verdict.Missing)
+missing_stream None asked image found none told = tt
+missing_stream (Some files) asked image found none told =
+    λ accepted.
+    ap (λ (found : Option (List ℕ)). answer_to_file asked files found) accepted.file
+    ∙ ap (answer_to_image asked files) accepted.meaning
+    ∙ ap (λ (found : Option (List ℕ)). answer_to_stream asked image found) (content_none (content_of files asked.stream) (sym none ∙ told))
+
+-- what is answered of a stream that is there
+outcome_is : (names : List Named) (asked : Asked) (image : Loaded) (judged : Result Verdict Unjudged) (stream got : List ℕ)
+    (left : Option (List ℕ)) → content_of names asked.stream ≡ Some stream → Consumes (Some stream) left got →
+    JudgedIs image asked.options.limits judged got left → IsAccepted asked names image →
+    OutcomeIs asked names (outcome_judged judged) left
+outcome_is names asked image (Ok v) stream got None there consumed decides accepted = absurd consumed
+outcome_is names asked image (Ok v) stream got (Some rest) there consumed decides accepted =
+    let j : Judgement = record { verdict = v; taken = length got } in
+    let whole : judgement image asked.options.limits (got ++ rest) ≡ j =
+    elim decides.verdict as (λ _. judgement image asked.options.limits (got ++ rest) ≡ j) [
+      | inl always ↦ always rest
+      | inr ended ↦ ap (λ (r : List ℕ). judgement image asked.options.limits (got ++ r)) ended.0
+          ∙ ap (λ (b : List ℕ). judgement image asked.options.limits b) (append-nil got) ∙ ended.1
+    ] in
+    let all : judgement image asked.options.limits stream ≡ j =
+    ap (λ (b : List ℕ). judgement image asked.options.limits b) consumed ∙ whole in
+    let after : drop (length got) stream ≡ rest =
+    ap (λ (b : List ℕ). drop (length got) b) consumed ∙ drop-append_seam got rest in
+    record {
+      image = image;
+      stream = stream;
+      there = record { accepted = accepted; stream_is = there };
+      verdict = ap (λ (k : Judgement). k.verdict) all;
+      left_is = ap (λ (b : List ℕ). Some b) (sym after) ∙ ap (λ (k : Judgement). Some (drop k.taken stream)) (sym all);
+    }
+outcome_is names asked image (Err unjudged.Failed) stream got None there consumed lacks accepted = absurd consumed
+outcome_is names asked image (Err unjudged.Failed) stream got (Some rest) there consumed lacks accepted =
+    record {
+      image = image;
+      stream = stream;
+      got = got;
+      rest = rest;
+      there = record { accepted = accepted; stream_is = there };
+      stream_is = consumed;
+      left_is = refl;
+      lacks = lacks;
+    }
+outcome_is names asked image (Err unjudged.Memory) stream got left there consumed is accepted = (image, accepted)
+
+-- what was attached as the stream and judged
+pub judged_told : (names : Option (List Named)) (asked : Asked) (image : Loaded) (judged : Result Verdict Unjudged) (found : Bool)
+    (old left left' : Option (List ℕ)) (got : List ℕ) → found ≡ true →
+    IfSome names (λ files. found ≡ is_some (content_of files asked.stream)) →
+    MatchBool found (IfSome names (λ files. left ≡ content_of files asked.stream)) (Keeps old left) →
+    Consumes left left' got → JudgedIs image asked.options.limits judged got left' →
+    IfSome names (λ files. IsAccepted asked files image → OutcomeIs asked files (outcome_judged judged) left')
+judged_told None asked image judged found old left left' got is_there told holds consumed is = tt
+judged_told (Some files) asked image judged true old left left' got is_there told holds consumed is =
+    let content = content_found (content_of files asked.stream) told in
+    let taken : Consumes (Some content.0) left' got =
+    subst (λ (l : Option (List ℕ)). Consumes l left' got) (holds ∙ content.1) consumed in
+    λ accepted. outcome_is files asked image judged content.0 got left' content.1 taken is accepted
+judged_told (Some files) asked image judged false old left left' got is_there told holds consumed is = absurd (cc)
+
+-- ---- both together
+
 -- the image and the stream, joined
 pub joined_told : (names names' : Option (List Named)) (asked : Asked) (image : ImageOf) (o : Outcome) (left : Option (List ℕ)) →
     names' ≡ names → IfSome names (λ files. ImageIs asked files (Ok image)) →
-    IfSome names' (λ files. StreamIs asked image files o left) → IfSome names (λ files. OutcomeIs asked files o left)
+    IfSome names' (λ files. IsAccepted asked files (loaded_of image) → OutcomeIs asked files o left) →
+    IfSome names (λ files. OutcomeIs asked files o left)
 joined_told names names' asked image o left same on_image on_stream =
     joined_some names asked image o left on_image
-    (subst (λ (n : Option (List Named)). IfSome n (λ files. StreamIs asked image files o left)) same on_stream)
+    (subst (λ (n : Option (List Named)). IfSome n (λ files. IsAccepted asked files (loaded_of image) → OutcomeIs asked files o left)) same on_stream)
   where
     joined_some : (names : Option (List Named)) (asked : Asked) (image : ImageOf) (o : Outcome) (left : Option (List ℕ)) →
-        IfSome names (λ files. ImageIs asked files (Ok image)) → IfSome names (λ files. StreamIs asked image files o left) →
+        IfSome names (λ files. ImageIs asked files (Ok image)) →
+        IfSome names (λ files. IsAccepted asked files (loaded_of image) → OutcomeIs asked files o left) →
         IfSome names (λ files. OutcomeIs asked files o left)
     joined_some None asked image o left on_image on_stream = tt
-    joined_some (Some files) asked image o left on_image on_stream = joined asked files image o left on_image on_stream
+    joined_some (Some files) asked image o left on_image on_stream = on_stream on_image
+
+-- ---- causes
+
+-- a refused file is refused for a fault of its own
+pub never_memory : (fault : ImageFault) (why : ImageFault) → no_image_of fault ≡ no_image.Refused why → why ≡ image_fault.Memory → ⊥
+never_memory image_fault.NotElf why e m = absurd (cc)
+never_memory image_fault.Class why e m = absurd (cc)
+never_memory image_fault.Kind why e m = absurd (cc)
+never_memory image_fault.Machine why e m = absurd (cc)
+never_memory (image_fault.Headers offset) why e m = absurd (cc)
+never_memory (image_fault.Segment index) why e m = absurd (cc)
+never_memory (image_fault.Overlap first second) why e m = absurd (cc)
+never_memory (image_fault.TooLarge limit') why e m = absurd (cc)
+never_memory image_fault.Memory why e m = absurd (cc)
+
+-- a count that rose within a call rose over it
+pub rose_on : (before mid after : ℕ) → before ≤ mid → mid ≤ after → Rose mid after → Rose before after
+rose_on before mid after low high (inl rises) = inl (omega arith)
+rose_on before mid after low high (inr last) =
+    elim (eq-or-lt_of_le low) [ inl same ↦ inr (same ∙ last) | inr less ↦ inl (omega arith) ]
+
+-- the cause of an answer on a stream that is there
+pub stream_caused : (judged : Result Verdict Unjudged) (before after : SlotView) → after.attached ≡ Some true →
+    (judged ≡ Err unjudged.Failed → Rose before.faults after.faults) → StreamCaused (outcome_judged judged) before after
+stream_caused (Ok v) before after attached rises = attached
+stream_caused (Err unjudged.Failed) before after attached rises = (rises refl, attached)
+stream_caused (Err unjudged.Memory) before after attached rises = attached

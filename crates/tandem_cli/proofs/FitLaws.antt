@@ -8,14 +8,14 @@ use Rattle.std.specs.Str.{bytes_eq}
 use Rattle.elf_image.specs.Rams.{IsRam}
 use Rattle.elf_image.specs.declared.ram.Ram.{Ram}
 use Rattle.tandem_cli.specs.Fits.{IsFit}
-use Rattle.tandem_core.specs.Judgements.{HasCeilings}
-use Rattle.tandem_cli.specs.Numbers.{number_of}
+use Rattle.tandem_core.specs.Limits.{HasCeilings}
+use Rattle.tandem_cli.specs.Numbers.{number_spelled}
 use Rattle.tandem_cli.specs.Options.{Chosen, after_comma, all_limits_of, at_most_one, before_comma, chosen_by, chosen_from, chosen_of, flat_at, flats_of, limits_from, limits_of, option_before, option_of, options_of, ram_at, ram_of, rams_of, within}
 use Rattle.tandem_cli.specs.Seen.{chosen_seen}
 use Rattle.tandem_cli.specs.declared.chosen.CheckOptions.{CheckOptions}
 use Rattle.tandem_cli.specs.declared.options.CheckOption.{CheckOption}
 use Rattle.tandem_cli.specs.declared.options.CheckOption.TheVariants.{FlatAt, RamAt, LimitsAre}
-use Rattle.tandem_core.specs.declared.fed.Limits.{Limits}
+use Rattle.tandem_core.specs.declared.limits.Limits.{Limits}
 
 -- an option is fit
 OptionFits : CheckOption → Type 0
@@ -74,21 +74,21 @@ mapped_limits None h = tt
 mapped_limits (Some limits) h = h
 
 ram_word_fits : (word : List ℕ) → IfSome (ram_of word) IsRam
-ram_word_fits word = ram_fits (number_of (before_first (λ c. c == 58) word)) (number_of (after_first (λ c. c == 58) word))
+ram_word_fits word = ram_fits (number_spelled (before_first (λ c. c == 58) word)) (number_spelled (after_first (λ c. c == 58) word))
 
 limits_word_fits : (word : List ℕ) → IfSome (limits_of word) HasCeilings
 limits_word_fits word =
-    let reads = number_of (before_comma word) in
-    let stores = number_of (before_comma (after_comma word)) in
-    let kept = number_of (before_comma (after_comma (after_comma word))) in
-    let messages = number_of (after_comma (after_comma (after_comma word))) in
+    let reads = number_spelled (before_comma word) in
+    let stores = number_spelled (before_comma (after_comma word)) in
+    let kept = number_spelled (before_comma (after_comma (after_comma word))) in
+    let messages = number_spelled (after_comma (after_comma (after_comma word))) in
     limits_fit (within 4096 reads) (within 4096 stores) (within 16384 kept) (within 4000000000 messages) (within_fits 4096 reads)
     (within_fits 4096 stores) (within_fits 16384 kept) (within_fits 4000000000 messages)
 
 option_fits : (name value : List ℕ) → IfSome (option_of name value) OptionFits
 unfolding option_of
 option_fits name value =
-    either OptionFits (bytes_eq name (codes "--flat")) _ _ (flat_fits (number_of value))
+    either OptionFits (bytes_eq name (codes "--flat")) _ _ (flat_fits (number_spelled value))
     (either OptionFits (bytes_eq name (codes "--ram")) _ _ (mapped_ram (ram_of value) (ram_word_fits value))
     (either OptionFits (bytes_eq name (codes "--limits")) _ _ (mapped_limits (limits_of value) (limits_word_fits value)) tt))
 

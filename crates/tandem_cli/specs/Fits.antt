@@ -2,7 +2,7 @@
 use Rattle.std.specs.Prelude.{◌≡◌, ◌%◌, All, IfSome}
 use Rattle.elf_image.specs.Rams.{IsRam}
 use Rattle.tandem_cli.specs.Options.{Chosen}
-use Rattle.tandem_core.specs.Judgements.{HasCeilings}
+use Rattle.tandem_core.specs.Limits.{HasCeilings}
 
 -- a flat image is aligned, each range of RAM is one, and the limits are within their ceilings
 pub record IsFit (options : Chosen) : Type 0 where

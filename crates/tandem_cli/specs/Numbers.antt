@@ -19,5 +19,5 @@ abbrev pub hexadecimal_of : List ℕ → Option ℕ
 hexadecimal_of digits = if nat_le (length digits) 16 then numeral_of 16 digits else None
 
 -- the number that a word spells: decimal digits, or `0x` and digits of base 16
-unfoldable pub number_of : List ℕ → Option ℕ
-number_of word = if starts_with nat_eq word (codes "0x") then hexadecimal_of (drop 2 word) else numeral_of 10 word
+unfoldable pub number_spelled : List ℕ → Option ℕ
+number_spelled word = if starts_with nat_eq word (codes "0x") then hexadecimal_of (drop 2 word) else numeral_of 10 word

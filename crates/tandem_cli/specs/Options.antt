@@ -4,10 +4,11 @@ use Rattle.std.specs.List.{before_first, after_first}
 use Rattle.std.specs.Option.{option_and_then, option_map}
 use Rattle.std.specs.Str.{bytes_eq}
 use Rattle.elf_image.specs.declared.ram.Ram.{Ram}
-use Rattle.tandem_cli.specs.Numbers.{number_of}
+use Rattle.tandem_cli.specs.Numbers.{number_spelled}
 use Rattle.tandem_cli.specs.declared.options.CheckOption.{CheckOption}
 use Rattle.tandem_cli.specs.declared.options.CheckOption.TheVariants.{FlatAt, RamAt, LimitsAre}
-use Rattle.tandem_core.specs.declared.fed.Limits.{Limits}
+use Rattle.tandem_core.specs.declared.limits.Limits.{Limits}
+use Rattle.tandem_core.specs.Limits.{ceilings}
 
 -- the image is flat at this address, a multiple of 4
 abbrev pub flat_at : Option ℕ → Option CheckOption
@@ -22,7 +23,7 @@ ram_at (Some base) (Some size) = if nat_le 1 size && nat_le (base + size) (2 ^ 6
 
 -- what `BASE:SIZE` asks for
 abbrev pub ram_of : List ℕ → Option Ram
-ram_of word = ram_at (number_of (before_first (λ c. c == 58) word)) (number_of (after_first (λ c. c == 58) word))
+ram_of word = ram_at (number_spelled (before_first (λ c. c == 58) word)) (number_spelled (after_first (λ c. c == 58) word))
 
 -- a number from 1 to its ceiling
 abbrev pub within : ℕ → Option ℕ → Option ℕ
@@ -48,20 +49,17 @@ after_comma word = after_first (λ c. c == 44) word
 -- what `R,S,K,M` asks for
 abbrev pub limits_of : List ℕ → Option Limits
 limits_of word =
-    let reads = number_of (before_comma word) in
-    let stores = number_of (before_comma (after_comma word)) in
-    let kept = number_of (before_comma (after_comma (after_comma word))) in
-    let messages = number_of (after_comma (after_comma (after_comma word))) in
-    limits_from (within 4096 reads) (within 4096 stores) (within 16384 kept) (within 4000000000 messages)
-
--- the limits where none are asked for: the ceilings
-abbrev pub ceilings : Limits
-ceilings = record { reads = 4096; stores = 4096; kept = 16384; messages = 4000000000 }
+    let reads = number_spelled (before_comma word) in
+    let stores = number_spelled (before_comma (after_comma word)) in
+    let kept = number_spelled (before_comma (after_comma (after_comma word))) in
+    let messages = number_spelled (after_comma (after_comma (after_comma word))) in
+    limits_from (within ceilings.reads reads) (within ceilings.stores stores) (within ceilings.kept kept)
+    (within ceilings.messages messages)
 
 -- the option of this name and value
 unfoldable pub option_of : List ℕ → List ℕ → Option CheckOption
 option_of name value =
-    if bytes_eq name (codes "--flat") then flat_at (number_of value)
+    if bytes_eq name (codes "--flat") then flat_at (number_spelled value)
     else (if bytes_eq name (codes "--ram") then option_map RamAt (ram_of value)
     else (if bytes_eq name (codes "--limits") then option_map LimitsAre (limits_of value) else None))
 
@@ -110,6 +108,7 @@ pub record Chosen : Type 0 where
   pub rams : List Ram
   pub limits : Limits
 
+-- what the options come to, where each was asked for at most once; the ceilings, where no limits were
 abbrev pub chosen_from : Option (Option ℕ) → List Ram → Option (Option Limits) → Option Chosen
 chosen_from None _ _ = None
 chosen_from (Some _) _ None = None

@@ -1,16 +1,13 @@
 -- The lines of the outcomes that have no verdict. A line ends with one newline, and one space
 -- separates its parts.
-use Rattle.std.specs.Prelude.{ℕ, List, [], ◌∷◌, ◌++◌, ◌≤◌, codes, length, take, Option}
+use Rattle.std.specs.Prelude.{ℕ, List, [], ◌++◌, ◌≤◌, codes, length, take, Option}
 use Rattle.std.specs.Fmt.{decimal}
 use Rattle.std.specs.Io.KnownBytes.{Appends}
+use Rattle.tandem_base.specs.Texts.{newline}
 use Rattle.elf_image.specs.declared.fault.ImageFault.{ImageFault}
 use Rattle.elf_image.specs.declared.fault.ImageFault.TheVariants.{NotElf, Class, Kind, Machine, Headers, Segment, Overlap, TooLarge, Memory}
 use Rattle.elf_image.specs.declared.fault.TooLarge as excess
 use Rattle.elf_image.specs.declared.fault.TooLarge.TheVariants.{File, Ranges, Sum}
-
--- the end of a line
-abbrev pub newline : List ℕ
-newline = 10 ∷ []
 
 -- the words that `check` takes
 abbrev pub usage_line : List ℕ

@@ -1,4 +1,5 @@
 //! What the options of the command line come to.
+
 ghost use Rattle.std.specs.Prelude.{◌≡◌, IfOk, IfSome, map};
 ghost use Rattle.std.specs.Option.{option_map};
 ghost use Rattle.std.specs.String.{string_bytes};
@@ -21,14 +22,6 @@ pub struct CheckOptions {
     /// The limits: the ceilings, where none were asked for.
     pub limits: Limits,
 }
-
-// The limits where none are asked for.
-const CEILINGS: Limits = Limits {
-    reads: 4096,
-    stores: 4096,
-    kept: 16384,
-    messages: 4_000_000_000,
-};
 
 /// The options that the words ask for. None where the words spell none, ask for more than one flat
 /// image, or for limits more than once.
@@ -62,7 +55,7 @@ fn gather(alloc: Global, options: &[CheckOption]) -> Result<Option<CheckOptions>
     Ok(Some(CheckOptions {
         flat,
         rams: all_rams(alloc, options)?,
-        limits: limits.unwrap_or(CEILINGS),
+        limits: limits.unwrap_or(Limits::CEILINGS),
     }))
 }
 

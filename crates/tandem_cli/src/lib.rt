@@ -1,15 +1,17 @@
 //! The words of the command line, and what the program does with them.
 #![tactic(auto)]
 
-pub mod chosen;
-pub mod intake;
-pub mod number;
-pub mod options;
-pub mod outcome;
-pub mod outcome_lines;
-pub mod run;
+mod chosen;
+mod intake;
+mod number;
+mod options;
+mod outcome;
+mod outcome_lines;
+mod program;
+mod run;
 #[cfg(test)]
 mod tests;
-pub mod words;
+mod words;
 
+pub use program::run_program;
 pub use run::run_check;

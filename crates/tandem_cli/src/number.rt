@@ -1,12 +1,13 @@
 //! The numbers that words spell.
+
 ghost use Rattle.std.specs.Prelude.{◌≡◌, ◌≤◌};
-ghost use Rattle.tandem_cli.specs.Numbers.{number_of, numeral_of};
+ghost use Rattle.tandem_cli.specs.Numbers.{number_spelled, numeral_of};
 
 /// The number that the word spells: decimal digits, or `0x` and one to sixteen hexadecimal digits
 /// of either case. None where it spells none below 2^64.
-#[tactic(auto, unfolding(crate::specs::Numbers::number_of))]
+#[tactic(auto, unfolding(crate::specs::Numbers::number_spelled))]
 pub fn number(word: &str) -> Option<u64>
-    ensures { result ≡ number_of word.now }
+    ensures { result ≡ number_spelled word.now }
 {
     if !word.starts_with("0x") {
         return numeral(word, 10);

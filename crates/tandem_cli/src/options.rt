@@ -1,9 +1,11 @@
 //! The options of the command line.
+
 ghost use Rattle.std.specs.Prelude.{◌≡◌, ◌==◌, ◌<◌, ◌≤◌, IfOk, IfSome, map};
 ghost use Rattle.std.specs.List.{after_first, before_first};
 ghost use Rattle.std.specs.Option.{option_map};
 ghost use Rattle.std.specs.String.{string_bytes};
-ghost use Rattle.tandem_cli.specs.Numbers.{number_of};
+ghost use Rattle.tandem_core.specs.Limits.{ceilings};
+ghost use Rattle.tandem_cli.specs.Numbers.{number_spelled};
 ghost use Rattle.tandem_cli.specs.Options.{flat_at, limits_from, limits_of, option_of, options_of, ram_at, ram_of, within};
 
 use super::number::number;
@@ -40,7 +42,7 @@ pub fn option(name: &str, value: &str) -> Option<CheckOption>
 
 // The base of a flat image, which is a multiple of 4.
 fn parse_flat(word: &str) -> Option<CheckOption>
-    ensures { result ≡ flat_at (number_of word.now) }
+    ensures { result ≡ flat_at (number_spelled word.now) }
 {
     match number(word) {
         Some(base) if base % 4 == 0 => Some(CheckOption::FlatAt(base)),
@@ -105,13 +107,15 @@ fn make_limits(
     kept: Option<u64>,
     messages: Option<u64>,
 ) -> Option<Limits>
-    ensures { result ≡ limits_from (within 4096 reads) (within 4096 stores) (within 16384 kept) (within 4000000000 messages) }
+    ensures { result ≡ limits_from (within ceilings.reads reads) (within ceilings.stores stores)
+        (within ceilings.kept kept) (within ceilings.messages messages) }
 {
+    let most = Limits::CEILINGS;
     Some(Limits {
-        reads: bounded(reads, 4096)? as u32,
-        stores: bounded(stores, 4096)? as u32,
-        kept: bounded(kept, 16384)? as u32,
-        messages: bounded(messages, 4_000_000_000)?,
+        reads: bounded(reads, u64::from(most.reads))? as u32,
+        stores: bounded(stores, u64::from(most.stores))? as u32,
+        kept: bounded(kept, u64::from(most.kept))? as u32,
+        messages: bounded(messages, most.messages)?,
     })
 }
 

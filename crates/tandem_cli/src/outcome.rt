@@ -1,9 +1,12 @@
 //! What comes of `tandem check`, before anything is written.
+
 ghost use Rattle.std.specs.Prelude.{◌≡◌, ◌≤◌, IfSome};
-ghost use Rattle.tandem_io.specs.Inputs.{slots_of};
 ghost use Rattle.elf_image.specs.Faults.{Reads};
+ghost use Rattle.elf_image.specs.Images.{loaded_of};
 ghost use Rattle.tandem_cli.specs.Fits.{IsFit};
-ghost use Rattle.tandem_cli.specs.Checks.{Caused, CountsStand, ImageCaused, ImageIs, OutcomeIs, StreamCaused, StreamIs, meaning_of, outcome_read, refusal_of};
+ghost use Rattle.tandem_cli.specs.Checks.{Caused, CountsStand, ImageCaused, ImageIs, IsAccepted, OutcomeIs};
+ghost use Rattle.tandem_cli.specs.Checks.{StreamCaused};
+ghost use Rattle.tandem_cli.specs.Checks.{image_read, meaning_of, no_image_of, outcome_judged};
 ghost use Rattle.tandem_cli.specs.Seen.{asked_seen, chosen_seen};
 
 use super::chosen::CheckOptions;
@@ -11,62 +14,81 @@ use super::intake::{Whole, read_whole};
 use super::words::CheckWords;
 use elf_image::{Image, ImageFault};
 use std::alloc::Global;
-use tandem_core::{Judged, judge};
+use tandem_core::{Unjudged, judge};
 use tandem_io::{Failed, Inputs, Slot};
 use verdict_report::Verdict;
+
+/// Why there is no image.
+#[derive(Clone, Copy, Debug, PartialEq, Eq)]
+pub enum NoImage {
+    /// No input of its name is there.
+    Missing,
+    /// Its input could not be opened.
+    Unopened,
+    /// Its input could not be read.
+    Unread,
+    /// Its input is none.
+    Refused(ImageFault),
+    /// Memory was refused.
+    Memory,
+}
+
+/// Why there is no verdict on a stream.
+#[derive(Clone, Copy, Debug, PartialEq, Eq)]
+pub enum NoVerdict {
+    /// No input of its name is there.
+    Missing,
+    /// Its input could not be opened.
+    Unopened,
+    /// Its input could not be read up to the verdict.
+    Unread,
+    /// Memory was refused.
+    Memory,
+}
 
 /// What comes of a check.
 #[derive(Clone, Copy, Debug, PartialEq, Eq)]
 pub enum Outcome {
-    /// No input of that slot's name is there.
-    Missing(Slot),
-    /// The input of that slot could not be opened.
-    Unopened(Slot),
-    /// The input of that slot could not be read.
-    Unread(Slot),
-    /// The image is none.
-    Refused(ImageFault),
+    /// There is no image, and the stream was not attached.
+    Unloaded(NoImage),
+    /// There is an image, and no verdict.
+    Unjudged(NoVerdict),
     /// The verdict on the stream.
     Judged(Verdict),
-    /// Memory was refused.
-    Memory,
 }
 
 /// Reads the image whole, and then judges the stream frame by frame.
 pub fn check<I: Inputs>(alloc: Global, asked: &CheckWords, ins: &mut I) -> Outcome
     requires { IsFit (chosen_seen asked.now.options) }
-    ensures outcome { IfSome (I.aside ins.old).names (λ names. OutcomeIs (asked_seen asked.now) names result (I.left ins.new)) }
-    ensures cause { Caused result (slots_of (I.left ins.old) (I.ended ins.old) (I.faults ins.old) (I.aside ins.old))
-        (slots_of (I.left ins.new) (I.ended ins.new) (I.faults ins.new) (I.aside ins.new)) }
-    ensures counts { CountsStand (slots_of (I.left ins.old) (I.ended ins.old) (I.faults ins.old) (I.aside ins.old))
-        (slots_of (I.left ins.new) (I.ended ins.new) (I.faults ins.new) (I.aside ins.new)) }
+    ensures outcome { IfSome (I.names ins.old) (λ names. OutcomeIs (asked_seen asked.now) names result (I.slots ins.new).stream.left) }
+    ensures cause { Caused result (I.slots ins.old) (I.slots ins.new) }
+    ensures counts { CountsStand (I.slots ins.old) (I.slots ins.new) }
+    ensures names { I.names ins.new ≡ I.names ins.old }
 {
     match read_image(alloc, asked, ins) {
-        Ok(image) => judge_stream(&image, asked, ins),
-        Err(outcome) => outcome,
+        Ok(image) => judge_stream(alloc, &image, asked, ins),
+        Err(why) => Outcome::Unloaded(why),
     }
 }
 
 // The image that is asked for. Nothing of the stream is touched.
-fn read_image<I: Inputs>(alloc: Global, asked: &CheckWords, ins: &mut I) -> Result<Image, Outcome>
+fn read_image<I: Inputs>(alloc: Global, asked: &CheckWords, ins: &mut I) -> Result<Image, NoImage>
     requires { IsFit (chosen_seen asked.now.options) }
-    ensures image { IfSome (I.aside ins.old).names (λ names. ImageIs (asked_seen asked.now) names result) }
-    ensures cause { ImageCaused result (slots_of (I.left ins.old) (I.ended ins.old) (I.faults ins.old) (I.aside ins.old))
-        (slots_of (I.left ins.new) (I.ended ins.new) (I.faults ins.new) (I.aside ins.new)) }
-    ensures count { (I.aside ins.old).image.faults ≤ (I.aside ins.new).image.faults }
-    ensures names { (I.aside ins.new).names ≡ (I.aside ins.old).names }
-    ensures stream { (slots_of (I.left ins.new) (I.ended ins.new) (I.faults ins.new) (I.aside ins.new)).stream
-        ≡ (slots_of (I.left ins.old) (I.ended ins.old) (I.faults ins.old) (I.aside ins.old)).stream }
+    ensures image { IfSome (I.names ins.old) (λ names. ImageIs (asked_seen asked.now) names result) }
+    ensures cause { ImageCaused result (I.slots ins.old).image (I.slots ins.new).image }
+    ensures count { (I.slots ins.old).image.faults ≤ (I.slots ins.new).image.faults }
+    ensures names { I.names ins.new ≡ I.names ins.old }
+    ensures stream { (I.slots ins.new).stream ≡ (I.slots ins.old).stream }
 {
     match ins.attach(Slot::Image, asked.image) {
         Ok(true) => {}
-        Ok(false) => return Err(Outcome::Missing(Slot::Image)),
-        Err(Failed) => return Err(Outcome::Unopened(Slot::Image)),
+        Ok(false) => return Err(NoImage::Missing),
+        Err(Failed) => return Err(NoImage::Unopened),
     }
     match read_whole(alloc, ins) {
         Whole::Bytes(bytes) => image_or_fault(make_image(alloc, &bytes, &asked.options)),
-        Whole::Failed => Err(Outcome::Unread(Slot::Image)),
-        Whole::Memory => Err(Outcome::Memory),
+        Whole::Failed => Err(NoImage::Unread),
+        Whole::Memory => Err(NoImage::Memory),
     }
 }
 
@@ -82,41 +104,50 @@ fn make_image(alloc: Global, bytes: &[u8], options: &CheckOptions) -> Result<Ima
 }
 
 // What a reader's answer comes to.
-fn image_or_fault(read: Result<Image, ImageFault>) -> Result<Image, Outcome>
-    ensures { result ≡ outcome_read read }
+fn image_or_fault(read: Result<Image, ImageFault>) -> Result<Image, NoImage>
+    ensures { result ≡ image_read read }
 {
     match read {
         Ok(image) => Ok(image),
-        Err(fault) => Err(refusal(fault)),
+        Err(fault) => Err(no_image(fault)),
     }
 }
 
 // Why there is no image.
-fn refusal(fault: ImageFault) -> Outcome
-    ensures { result ≡ refusal_of fault }
+fn no_image(fault: ImageFault) -> NoImage
+    ensures { result ≡ no_image_of fault }
 {
     match fault {
-        ImageFault::Memory => Outcome::Memory,
-        _ => Outcome::Refused(fault),
+        ImageFault::Memory => NoImage::Memory,
+        _ => NoImage::Refused(fault),
     }
 }
 
 // The verdict on the stream that is asked for.
-fn judge_stream<I: Inputs>(image: &Image, asked: &CheckWords, ins: &mut I) -> Outcome
+fn judge_stream<I: Inputs>(alloc: Global, image: &Image, asked: &CheckWords, ins: &mut I) -> Outcome
     requires { IsFit (chosen_seen asked.now.options) }
-    ensures outcome { IfSome (I.aside ins.old).names (λ names. StreamIs (asked_seen asked.now) image.now names result (I.left ins.new)) }
-    ensures cause { StreamCaused result (slots_of (I.left ins.old) (I.ended ins.old) (I.faults ins.old) (I.aside ins.old)).stream
-        (slots_of (I.left ins.new) (I.ended ins.new) (I.faults ins.new) (I.aside ins.new)).stream }
-    ensures count { I.faults ins.old ≤ I.faults ins.new }
-    ensures image { (I.aside ins.new).image ≡ (I.aside ins.old).image }
+    ensures outcome { IfSome (I.names ins.old) (λ names. IsAccepted (asked_seen asked.now) names (loaded_of image.now) →
+        OutcomeIs (asked_seen asked.now) names result (I.slots ins.new).stream.left) }
+    ensures cause { StreamCaused result (I.slots ins.old).stream (I.slots ins.new).stream }
+    ensures count { (I.slots ins.old).stream.faults ≤ (I.slots ins.new).stream.faults }
+    ensures names { I.names ins.new ≡ I.names ins.old }
+    ensures image { (I.slots ins.new).image ≡ (I.slots ins.old).image }
 {
     match ins.attach(Slot::Stream, asked.stream) {
         Ok(true) => {}
-        Ok(false) => return Outcome::Missing(Slot::Stream),
-        Err(Failed) => return Outcome::Unopened(Slot::Stream),
+        Ok(false) => return Outcome::Unjudged(NoVerdict::Missing),
+        Err(Failed) => return Outcome::Unjudged(NoVerdict::Unopened),
     }
-    match judge(image, &asked.options.limits, ins) {
-        Judged::Verdict(verdict) => Outcome::Judged(verdict),
-        Judged::Failed => Outcome::Unread(Slot::Stream),
+    stream_outcome(judge(alloc, image, &asked.options.limits, ins))
+}
+
+// What the answer on the stream comes to.
+fn stream_outcome(judged: Result<Verdict, Unjudged>) -> Outcome
+    ensures { result ≡ outcome_judged judged }
+{
+    match judged {
+        Ok(verdict) => Outcome::Judged(verdict),
+        Err(Unjudged::Failed) => Outcome::Unjudged(NoVerdict::Unread),
+        Err(Unjudged::Memory) => Outcome::Unjudged(NoVerdict::Memory),
     }
 }

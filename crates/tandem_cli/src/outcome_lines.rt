@@ -1,14 +1,17 @@
 //! The lines of the outcomes that have no verdict.
+
 ghost use Rattle.std.specs.Prelude.{◌≡◌, ◌+◌, ◌≤◌, ◌++◌, codes, length, OnErr, OnOk};
 ghost use Rattle.std.specs.Fmt.{decimal};
 ghost use Rattle.std.specs.Io.KnownBytes.{Appends};
-ghost use Rattle.tandem_cli.specs.Outcomes.{TakesFront, excess_text, failed_line, image_line, missing_line, newline, usage_line};
+ghost use Rattle.tandem_cli.specs.Outcomes.{TakesFront, excess_text, failed_line, image_line, missing_line, usage_line};
+ghost use Rattle.tandem_base.specs.Texts.{newline};
 ghost use Rattle.tandem_io.specs.Causes.{HasCause};
-ghost use Rattle.verdict_report.specs.Puts.{Puts};
+ghost use Rattle.tandem_base.specs.Puts.{Puts};
 
 use elf_image::{ImageFault, TooLarge};
+use tandem_base::put;
 use tandem_io::{Failed, Sink, write_all};
-use verdict_report::put::{put, put_decimal};
+use verdict_report::put_decimal;
 
 /// Writes the words that `check` takes. After an error the sink took a front of the line.
 pub fn print_usage<K: Sink>(out: &mut K) -> Result<(), Failed>
@@ -63,7 +66,7 @@ fn print_image_over<K: Sink>(fault: &ImageFault, text: &mut [u8], out: &mut K) -
     ensures cause { HasCause (K.faults out.old) (K.faults out.new) result }
     ensures count { K.faults out.old ≤ K.faults out.new }
 {
-    let end = put_image_fault(fault, text, 0);
+    let end = put_image_fault(text, 0, fault);
     print_text(&text[..end], out)
 }
 
@@ -103,74 +106,70 @@ fn print_two<K: Sink>(front: &[u8], back: &[u8], out: &mut K) -> Result<(), Fail
 }
 
 // Puts why the image is none.
-#[tactic(auto, using(verdict_report::proofs::PutsLaws::puts_then))]
-fn put_image_fault(fault: &ImageFault, out: &mut [u8], at: usize) -> usize
+fn put_image_fault(out: &mut [u8], at: usize, fault: &ImageFault) -> usize
     requires { at + 64 ≤ length out.old }
     ensures puts { Puts at out.old result out.new (image_line fault.now) }
     ensures bound { result ≤ at + 64 }
 {
     match *fault {
-        ImageFault::NotElf => put(b"IMAGE 1 NotElf\n", out, at),
-        ImageFault::Class => put(b"IMAGE 2 Class\n", out, at),
-        ImageFault::Kind => put(b"IMAGE 3 Kind\n", out, at),
-        ImageFault::Machine => put(b"IMAGE 4 Machine\n", out, at),
-        ImageFault::Headers(offset) => put_numbered(b"IMAGE 5 Headers ", offset, out, at),
-        ImageFault::Segment(index) => put_numbered(b"IMAGE 6 Segment ", index, out, at),
-        ImageFault::Overlap(first, second) => put_overlap(first, second, out, at),
+        ImageFault::NotElf => put(out, at, b"IMAGE 1 NotElf\n"),
+        ImageFault::Class => put(out, at, b"IMAGE 2 Class\n"),
+        ImageFault::Kind => put(out, at, b"IMAGE 3 Kind\n"),
+        ImageFault::Machine => put(out, at, b"IMAGE 4 Machine\n"),
+        ImageFault::Headers(offset) => put_numbered(out, at, b"IMAGE 5 Headers ", offset),
+        ImageFault::Segment(index) => put_numbered(out, at, b"IMAGE 6 Segment ", index),
+        ImageFault::Overlap(first, second) => put_overlap(out, at, first, second),
         ImageFault::TooLarge(limit) => {
-            let end = put(b"IMAGE 8 TooLarge ", out, at);
-            let end = put_excess(limit, out, end);
-            put(b"\n", out, end)
+            let end = put(out, at, b"IMAGE 8 TooLarge ");
+            let end = put_excess(out, end, limit);
+            put(out, end, b"\n")
         }
-        ImageFault::Memory => put(b"", out, at),
+        ImageFault::Memory => put(out, at, b""),
     }
 }
 
 // Puts a text, a number and a newline.
-#[tactic(auto, using(verdict_report::proofs::PutsLaws::puts_then))]
-fn put_numbered(text: &[u8], number: u16, out: &mut [u8], at: usize) -> usize
+fn put_numbered(out: &mut [u8], at: usize, text: &[u8], number: u16) -> usize
     requires { at + length text.now + 6 ≤ length out.old }
     ensures puts { Puts at out.old result out.new (text.now ++ decimal number ++ newline) }
     ensures bound { result ≤ at + length text.now + 6 }
 {
-    let end = put(text, out, at);
-    let end = put_decimal(number, out, end);
-    put(b"\n", out, end)
+    let end = put(out, at, text);
+    let end = put_decimal(out, end, number);
+    put(out, end, b"\n")
 }
 
 // Puts that two segments share an address.
-#[tactic(auto, using(verdict_report::proofs::PutsLaws::puts_then))]
-fn put_overlap(first: u16, second: u16, out: &mut [u8], at: usize) -> usize
+fn put_overlap(out: &mut [u8], at: usize, first: u16, second: u16) -> usize
     requires { at + 64 ≤ length out.old }
     ensures puts { Puts at out.old result out.new (codes "IMAGE 7 Overlap " ++ decimal first ++ codes " " ++ decimal second ++ newline) }
     ensures bound { result ≤ at + 64 }
 {
-    let end = put(b"IMAGE 7 Overlap ", out, at);
-    let end = put_decimal(first, out, end);
-    let end = put(b" ", out, end);
-    let end = put_decimal(second, out, end);
-    put(b"\n", out, end)
+    let end = put(out, at, b"IMAGE 7 Overlap ");
+    let end = put_decimal(out, end, first);
+    let end = put(out, end, b" ");
+    let end = put_decimal(out, end, second);
+    put(out, end, b"\n")
 }
 
 // Puts a limit of images, and the count that passes it.
-#[tactic(auto, using(verdict_report::proofs::PutsLaws::puts_then))]
-fn put_excess(limit: TooLarge, out: &mut [u8], at: usize) -> usize
+fn put_excess(out: &mut [u8], at: usize, limit: TooLarge) -> usize
     requires { at + 46 ≤ length out.old }
     ensures puts { Puts at out.old result out.new (excess_text limit) }
     ensures bound { result ≤ at + 46 }
 {
     match limit {
         TooLarge::File(length) => {
-            let end = put(b"File ", out, at);
-            put_decimal(length, out, end)
+            let end = put(out, at, b"File ");
+            put_decimal(out, end, length)
         }
         TooLarge::Ranges(count) => {
-            let end = put(b"Ranges ", out, at);
-            put_decimal(count, out, end)
+            let end = put(out, at, b"Ranges ");
+            put_decimal(out, end, count)
         }
         TooLarge::Sum(size) => {
-            let end = put(b"Sum ", out, at);
-            put_decimal(size, out, end)
+            let end = put(out, at, b"Sum ");
+            put_decimal(out, end, size)
         }
     }
 }

@@ -1,27 +1,29 @@
 //! The top call of `tandem check`.
+
 ghost use Rattle.std.specs.Prelude.{◌≡◌, ◌≤◌, IfSome, IfOk, IfErr, OnOk, OnErr, map};
 ghost use Rattle.std.specs.Io.KnownBytes.{Appends};
 ghost use Rattle.std.specs.String.{string_bytes};
 ghost use Rattle.tandem_io.specs.Causes.{HasCause};
-ghost use Rattle.tandem_io.specs.Inputs.{slots_of};
-ghost use Rattle.tandem_cli.specs.Answers.{Answers, AnswersUsage, IsQuiet, Prints, Settled, line_for, status_for, status_of_verdict, name_in};
+ghost use Rattle.tandem_cli.specs.Answers.{AnswersUsage, ChecksAs, NoFaultRose, Prints, Settled};
+ghost use Rattle.tandem_cli.specs.Answers.{line_for, no_image_line, no_image_status, no_verdict_line};
+ghost use Rattle.tandem_cli.specs.Answers.{no_verdict_status, status_for, status_of_verdict};
 ghost use Rattle.tandem_cli.specs.Outcomes.{TakesFront, usage_line};
 ghost use Rattle.verdict_report.specs.Lines.{line_of};
 ghost use Rattle.tandem_cli.specs.Seen.{asked_seen};
 ghost use Rattle.tandem_cli.specs.Words.{Asked, asked};
 
-use super::outcome::{Outcome, check};
+use super::outcome::{NoImage, NoVerdict, Outcome, check};
 use super::outcome_lines::{print_failed, print_image_fault, print_missing, print_usage};
 use super::words::{CheckWords, parse};
 use std::alloc::Global;
-use tandem_io::{Failed, Inputs, Sink, Slot};
+use tandem_io::{Failed, Inputs, Sink};
 use verdict_report::{Verdict, print};
 
 /// Does all that `tandem check` does, for the words after the program's name, with `check` first.
 /// Writes one line, and answers the status that the program ends with:
 ///
 /// - 0 ACCEPT, 1 REJECT, 5 UNDECIDED: the verdict on the stream;
-/// - 2 USAGE: the words are of another form; nothing was attached;
+/// - 2 USAGE: the words are of another form; the inputs are as they were;
 /// - 3 INPUT missing, INPUT failed: no input of that name is there, or it could not be opened or read;
 /// - 4 IMAGE: the image is none, and the stream wasn't attached;
 /// - 6: the sink failed, and took a front of the line that was due;
@@ -33,24 +35,21 @@ pub fn run_check<I: Inputs, K: Sink>(
     out: &mut K,
 ) -> u8
     // Words of another form.
-    ensures usage { asked (map string_bytes words.now) ≡ None → AnswersUsage result (K.written out.old) (K.written out.new)
-        (K.faults out.old) (K.faults out.new) }
-    ensures untouched { asked (map string_bytes words.now) ≡ None →
-        slots_of (I.left ins.new) (I.ended ins.new) (I.faults ins.new) (I.aside ins.new)
-        ≡ slots_of (I.left ins.old) (I.ended ins.old) (I.faults ins.old) (I.aside ins.old) }
+    ensures usage { asked (map string_bytes words.now) ≡ None →
+        AnswersUsage result (K.written out.old) (K.written out.new) (K.faults out.old) (K.faults out.new) }
+    ensures untouched { asked (map string_bytes words.now) ≡ None → ins.new ≡ ins.old }
 
     // Words of the form of `check`, whatever rose.
-    ensures answer { (a : Asked) → asked (map string_bytes words.now) ≡ Some a → Answers a (I.aside ins.old).names
-        (slots_of (I.left ins.old) (I.ended ins.old) (I.faults ins.old) (I.aside ins.old))
-        (slots_of (I.left ins.new) (I.ended ins.new) (I.faults ins.new) (I.aside ins.new))
-        result (K.written out.old) (K.written out.new) (K.faults out.old) (K.faults out.new) }
+    ensures answer { (a : Asked) → asked (map string_bytes words.now) ≡ Some a →
+        ChecksAs a (I.names ins.old) (I.slots ins.old) (I.slots ins.new) result
+        (K.written out.old) (K.written out.new) (K.faults out.old) (K.faults out.new) }
 
     // The same words, where no count rose and the inputs tell their names.
-    ensures quiet { (a : Asked) → asked (map string_bytes words.now) ≡ Some a → IfSome (I.aside ins.old).names (λ names.
-        IsQuiet (slots_of (I.left ins.old) (I.ended ins.old) (I.faults ins.old) (I.aside ins.old))
-        (slots_of (I.left ins.new) (I.ended ins.new) (I.faults ins.new) (I.aside ins.new)) (K.faults out.old) (K.faults out.new) →
-        Settled a names (slots_of (I.left ins.new) (I.ended ins.new) (I.faults ins.new) (I.aside ins.new))
-        result (K.written out.old) (K.written out.new)) }
+    ensures quiet { (a : Asked) → asked (map string_bytes words.now) ≡ Some a → IfSome (I.names ins.old) (λ names.
+        NoFaultRose (I.slots ins.old) (I.slots ins.new) (K.faults out.old) (K.faults out.new) →
+        Settled a names (I.slots ins.new) result (K.written out.old) (K.written out.new)) }
+
+    ensures names { I.names ins.new ≡ I.names ins.old }
     ensures count { K.faults out.old ≤ K.faults out.new }
 {
     answer_words(alloc, words, ins, out)
@@ -58,15 +57,13 @@ pub fn run_check<I: Inputs, K: Sink>(
 
 // The same, by the outcome alone.
 fn answer_words<I: Inputs, K: Sink>(alloc: Global, words: &[String], ins: &mut I, out: &mut K) -> u8
-    ensures usage { asked (map string_bytes words.now) ≡ None → AnswersUsage result (K.written out.old) (K.written out.new)
-        (K.faults out.old) (K.faults out.new) }
-    ensures untouched { asked (map string_bytes words.now) ≡ None →
-        slots_of (I.left ins.new) (I.ended ins.new) (I.faults ins.new) (I.aside ins.new)
-        ≡ slots_of (I.left ins.old) (I.ended ins.old) (I.faults ins.old) (I.aside ins.old) }
-    ensures answer { (a : Asked) → asked (map string_bytes words.now) ≡ Some a → Answers a (I.aside ins.old).names
-        (slots_of (I.left ins.old) (I.ended ins.old) (I.faults ins.old) (I.aside ins.old))
-        (slots_of (I.left ins.new) (I.ended ins.new) (I.faults ins.new) (I.aside ins.new))
-        result (K.written out.old) (K.written out.new) (K.faults out.old) (K.faults out.new) }
+    ensures usage { asked (map string_bytes words.now) ≡ None →
+        AnswersUsage result (K.written out.old) (K.written out.new) (K.faults out.old) (K.faults out.new) }
+    ensures untouched { asked (map string_bytes words.now) ≡ None → ins.new ≡ ins.old }
+    ensures answer { (a : Asked) → asked (map string_bytes words.now) ≡ Some a →
+        ChecksAs a (I.names ins.old) (I.slots ins.old) (I.slots ins.new) result
+        (K.written out.old) (K.written out.new) (K.faults out.old) (K.faults out.new) }
+    ensures names { I.names ins.new ≡ I.names ins.old }
     ensures count { K.faults out.old ≤ K.faults out.new }
 {
     match parse(alloc, words) {
@@ -87,16 +84,6 @@ fn finished(status: u8, written: Result<(), Failed>) -> u8
     match written {
         Ok(()) => status,
         Err(Failed) => 6,
-    }
-}
-
-// The name that is asked for in a slot.
-fn name_of<'a>(asked: &CheckWords<'a>, slot: Slot) -> &'a str
-    ensures { result.now ≡ name_in (asked_seen asked.now) slot }
-{
-    match slot {
-        Slot::Image => asked.image,
-        Slot::Stream => asked.stream,
     }
 }
 
@@ -122,6 +109,35 @@ fn print_verdict<K: Sink>(verdict: &Verdict, out: &mut K) -> Result<(), Failed>
     }
 }
 
+// Writes why there is no image of this name, and answers the status.
+fn report_no_image<K: Sink>(name: &str, why: &NoImage, out: &mut K) -> u8
+    ensures prints { Prints (no_image_line name.now why.now) (no_image_status why.now) result
+        (K.written out.old) (K.written out.new) (K.faults out.old) (K.faults out.new) }
+    ensures count { K.faults out.old ≤ K.faults out.new }
+{
+    match why {
+        NoImage::Missing => finished(3, print_missing(name, out)),
+        NoImage::Unopened => finished(3, print_failed(name, out)),
+        NoImage::Unread => finished(3, print_failed(name, out)),
+        NoImage::Refused(fault) => finished(4, print_image_fault(fault, out)),
+        NoImage::Memory => 7,
+    }
+}
+
+// Writes why there is no verdict on the stream of this name, and answers the status.
+fn report_no_verdict<K: Sink>(name: &str, why: &NoVerdict, out: &mut K) -> u8
+    ensures prints { Prints (no_verdict_line name.now why.now) (no_verdict_status why.now) result
+        (K.written out.old) (K.written out.new) (K.faults out.old) (K.faults out.new) }
+    ensures count { K.faults out.old ≤ K.faults out.new }
+{
+    match why {
+        NoVerdict::Missing => finished(3, print_missing(name, out)),
+        NoVerdict::Unopened => finished(3, print_failed(name, out)),
+        NoVerdict::Unread => finished(3, print_failed(name, out)),
+        NoVerdict::Memory => 7,
+    }
+}
+
 // Writes the line of an outcome, and answers its status.
 fn report<K: Sink>(asked: &CheckWords, outcome: &Outcome, out: &mut K) -> u8
     ensures prints { Prints (line_for (asked_seen asked.now) outcome.now) (status_for outcome.now) result
@@ -129,11 +145,8 @@ fn report<K: Sink>(asked: &CheckWords, outcome: &Outcome, out: &mut K) -> u8
     ensures count { K.faults out.old ≤ K.faults out.new }
 {
     match outcome {
-        Outcome::Missing(slot) => finished(3, print_missing(name_of(asked, *slot), out)),
-        Outcome::Unopened(slot) => finished(3, print_failed(name_of(asked, *slot), out)),
-        Outcome::Unread(slot) => finished(3, print_failed(name_of(asked, *slot), out)),
-        Outcome::Refused(fault) => finished(4, print_image_fault(fault, out)),
+        Outcome::Unloaded(why) => report_no_image(asked.image, why, out),
+        Outcome::Unjudged(why) => report_no_verdict(asked.stream, why, out),
         Outcome::Judged(verdict) => finished(verdict_status(verdict), print_verdict(verdict, out)),
-        Outcome::Memory => 7,
     }
 }

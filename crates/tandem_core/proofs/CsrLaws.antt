@@ -1,11 +1,13 @@
 -- How the first difference of two lists is found entry by entry.
-use Rattle.std.proofs.Common.{◌≡◌, ℕ, suc, zero, ◌+◌, ◌≤◌, List, [], ◌∷◌, length, drop, refl, None, Some, sym, ap, ◌∙◌, arith, add-one}
-use Rattle.std.specs.Prelude.{slice_get, Bool, true, false, is_some}
+use Rattle.std.proofs.Common.{◌≡◌, ℕ, suc, zero, ◌+◌, ◌≤◌, List, [], ◌∷◌, length, drop, refl, None, Some, Ok, Err, sym, ap, ◌∙◌, arith, add-one}
+use Rattle.std.specs.Prelude.{slice_get}
 use Rattle.std.proofs.lemmas.List.{drop_all}
 use Rattle.std.specs.declared.option.Option.{Option}
+use Rattle.std.specs.declared.result.Result.{Result}
 use Rattle.msg_frames.specs.declared.csrs.CsrValue.{CsrValue}
 use Rattle.verdict_report.specs.declared.fault.Fault.{Fault}
-use Rattle.tandem_core.specs.Compares.{csr_entry_fault_of, ◌or_else◌, csr_difference}
+use Rattle.tandem_base.specs.FirstFault.{◌or_else◌, passed}
+use Rattle.tandem_core.specs.Compares.{csr_entry_fault_of, csr_difference, csr_fault_of}
 
 only_got : (n k : ℕ) (gs : List CsrValue) →
     csr_difference n [] (drop k gs)
@@ -44,36 +46,40 @@ csr_difference-step k ws gs =
     step k k ws gs
     ∙ ap (λ (n : ℕ). ◌or_else◌ (csr_entry_fault_of k (slice_get ws k) (slice_get gs k)) (csr_difference (k + 1) (drop n ws) (drop n gs))) e
 
-or_else-some : (f later : Option Fault) → is_some f ≡ true → ◌or_else◌ f later ≡ f
-or_else-some (Some f) later e = refl
-or_else-some None later e = cc
+-- a test that passed found no fault, and one that failed found its fault
+pub passed_ok : (o : Option Fault) (u : Unit {0}) → passed o ≡ Ok u → o ≡ None
+passed_ok None u e = refl
+passed_ok (Some f) u e = absurd (cc)
 
-or_else-none : (f later : Option Fault) → is_some f ≡ false → ◌or_else◌ f later ≡ later
-or_else-none (Some f) later e = cc
-or_else-none None later e = refl
+passed_err : (o : Option Fault) (f : Fault) → passed o ≡ Err f → o ≡ Some f
+passed_err None f e = absurd (cc)
+passed_err (Some g) f e = cc
 
--- an entry that differs, where none before it does, is the answer
-pub csr_difference-found : (k : ℕ) (ws gs : List CsrValue) (f : Option Fault) →
+-- an entry that differs, where none before it does, is the first difference
+pub csr_broken : (k : ℕ) (ws gs : List CsrValue) (checked : Result (Unit {0}) Fault) (f : Fault) →
     csr_difference 0 ws gs ≡ csr_difference k (drop k ws) (drop k gs) →
-    f ≡ csr_entry_fault_of k (slice_get ws k) (slice_get gs k) → is_some f ≡ true → f ≡ csr_difference 0 ws gs
-csr_difference-found k ws gs f before is some =
-    let step_k = csr_difference-step k ws gs in
-    let picks = or_else-some f (csr_difference (k + 1) (drop (k + 1) ws) (drop (k + 1) gs)) some in
-    cc
+    checked ≡ passed (csr_entry_fault_of k (slice_get ws k) (slice_get gs k)) → checked ≡ Err f →
+    Err f ≡ passed (csr_fault_of ws gs)
+csr_broken k ws gs checked f before is broken =
+    let found : csr_entry_fault_of k (slice_get ws k) (slice_get gs k) ≡ Some f = passed_err _ f (sym is ∙ broken) in
+    let all : csr_difference 0 ws gs ≡ Some f =
+    before ∙ csr_difference-step k ws gs
+    ∙ ap (λ (e : Option Fault). ◌or_else◌ e (csr_difference (k + 1) (drop (k + 1) ws) (drop (k + 1) gs))) found in
+    sym (ap (λ (e : Option Fault). passed e) all)
 
 -- one that doesn't differ is passed
-pub csr_difference-passed : (k : ℕ) (ws gs : List CsrValue) (f : Option Fault) →
+pub csr_passed : (k : ℕ) (ws gs : List CsrValue) (checked : Result (Unit {0}) Fault) (u : Unit {0}) →
     csr_difference 0 ws gs ≡ csr_difference k (drop k ws) (drop k gs) →
-    f ≡ csr_entry_fault_of k (slice_get ws k) (slice_get gs k) → is_some f ≡ false →
+    checked ≡ passed (csr_entry_fault_of k (slice_get ws k) (slice_get gs k)) → checked ≡ Ok u →
     csr_difference 0 ws gs ≡ csr_difference (k + 1) (drop (k + 1) ws) (drop (k + 1) gs)
-csr_difference-passed k ws gs f before is none =
-    let step_k = csr_difference-step k ws gs in
-    let picks = or_else-none f (csr_difference (k + 1) (drop (k + 1) ws) (drop (k + 1) gs)) none in
-    cc
+csr_passed k ws gs checked u before is fine =
+    let none : csr_entry_fault_of k (slice_get ws k) (slice_get gs k) ≡ None = passed_ok _ u (sym is ∙ fine) in
+    before ∙ csr_difference-step k ws gs
+    ∙ ap (λ (e : Option Fault). ◌or_else◌ e (csr_difference (k + 1) (drop (k + 1) ws) (drop (k + 1) gs))) none
 
 -- past both ends nothing differs
-pub csr_difference-ended : (k : ℕ) (ws gs : List CsrValue) →
+pub csr_ended : (k : ℕ) (ws gs : List CsrValue) →
     csr_difference 0 ws gs ≡ csr_difference k (drop k ws) (drop k gs) → length ws ≤ k → length gs ≤ k →
     csr_difference 0 ws gs ≡ None
-csr_difference-ended k ws gs before wants gots =
+csr_ended k ws gs before wants gots =
     before ∙ ap (λ xs. csr_difference k xs (drop k gs)) (drop_all k ws wants) ∙ ap (λ xs. csr_difference k [] xs) (drop_all k gs gots)

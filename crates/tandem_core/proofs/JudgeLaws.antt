@@ -6,27 +6,27 @@ use Rattle.msg_frames.specs.declared.message.Message.{Message}
 use Rattle.msg_frames.specs.declared.message.FrameFault.{FrameFault}
 use Rattle.msg_frames.specs.Frames.{frame}
 use Rattle.msg_frames.specs.Cut.{Cut, Ending, End, Bad, Short, cut, needed}
-use Rattle.elf_image.specs.Images.{ImageOf}
+use Rattle.elf_image.specs.Images.{Loaded}
 use Rattle.verdict_report.specs.declared.verdict.Verdict.{Verdict}
 use Rattle.verdict_report.specs.declared.verdict.Verdict.TheVariants as verdict
-use Rattle.tandem_core.specs.declared.fed.Limits.{Limits}
+use Rattle.tandem_core.specs.declared.limits.Limits.{Limits}
 use Rattle.tandem_core.specs.Runs.{offset_of}
-use Rattle.tandem_core.specs.Judgements.{Judgement, given, judge_from, decided, accept_of, bad_frame_of, truncated_of}
+use Rattle.tandem_core.specs.Judgements.{Judgement, first_given, judge_from, decided, accept_of, bad_frame_of, truncated_of}
 
 -- the verdict where these bytes gave these messages, and those are still to come
-abbrev pub judged_after : ImageOf → Limits → List ℕ → List Message → List ℕ → Judgement
+abbrev pub judged_after : Loaded → Limits → List ℕ → List Message → List ℕ → Judgement
 judged_after image limits got before more =
     judge_from image limits (got ++ more) before (cut more).messages (cut more).ending
 
-next : (image : ImageOf) (limits : Limits) (bytes : List ℕ) (before : List Message) (m : Message) (later : List Message)
+next : (image : Loaded) (limits : Limits) (bytes : List ℕ) (before : List Message) (m : Message) (later : List Message)
     (ending : Ending) → decided image limits before m ≡ None →
     judge_from image limits bytes before (m ∷ later) ending ≡ judge_from image limits bytes (m ∷ before) later ending
 unfolding judge_from
 next image limits bytes before m later ending none =
-    ap (λ (d : Option Verdict). given d (offset_of (m ∷ before)) (judge_from image limits bytes (m ∷ before) later ending)) none
+    ap (λ (d : Option Verdict). first_given d (offset_of (m ∷ before)) (judge_from image limits bytes (m ∷ before) later ending)) none
 
 -- a message that decides nothing
-pub after_message : (image : ImageOf) (limits : Limits) (got front more : List ℕ) (before : List Message) (m : Message) →
+pub after_message : (image : Loaded) (limits : Limits) (got front more : List ℕ) (before : List Message) (m : Message) →
     cut (front ++ more) ≡ record { messages = m ∷ (cut more).messages; ending = (cut more).ending } →
     decided image limits before m ≡ None →
     judged_after image limits got before (front ++ more) ≡ judged_after image limits (got ++ front) (m ∷ before) more
@@ -36,15 +36,15 @@ after_message image limits got front more before m cut_is none =
     ∙ ap (λ (bytes : List ℕ). judge_from image limits bytes (m ∷ before) (cut more).messages (cut more).ending)
     (sym (append_assoc got front more))
 
-decides : (image : ImageOf) (limits : Limits) (bytes : List ℕ) (before : List Message) (m : Message) (later : List Message)
+decides : (image : Loaded) (limits : Limits) (bytes : List ℕ) (before : List Message) (m : Message) (later : List Message)
     (ending : Ending) (v : Verdict) → decided image limits before m ≡ Some v →
     judge_from image limits bytes before (m ∷ later) ending ≡ record { verdict = v; taken = offset_of (m ∷ before) }
 unfolding judge_from
 decides image limits bytes before m later ending v some =
-    ap (λ (d : Option Verdict). given d (offset_of (m ∷ before)) (judge_from image limits bytes (m ∷ before) later ending)) some
+    ap (λ (d : Option Verdict). first_given d (offset_of (m ∷ before)) (judge_from image limits bytes (m ∷ before) later ending)) some
 
 -- a message that decides
-pub after_decision : (image : ImageOf) (limits : Limits) (got front more : List ℕ) (before : List Message) (m : Message)
+pub after_decision : (image : Loaded) (limits : Limits) (got front more : List ℕ) (before : List Message) (m : Message)
     (later : List Message) (v : Verdict) → (cut (front ++ more)).messages ≡ m ∷ later →
     decided image limits before m ≡ Some v →
     judged_after image limits got before (front ++ more) ≡ record { verdict = v; taken = offset_of (m ∷ before) }
@@ -52,13 +52,13 @@ after_decision image limits got front more before m later v cut_is some =
     ap (λ (ms : List Message). judge_from image limits (got ++ (front ++ more)) before ms (cut (front ++ more)).ending) cut_is
     ∙ decides image limits (got ++ (front ++ more)) before m later (cut (front ++ more)).ending v some
 
-ends : (image : ImageOf) (limits : Limits) (bytes : List ℕ) (before : List Message) →
+ends : (image : Loaded) (limits : Limits) (bytes : List ℕ) (before : List Message) →
     judge_from image limits bytes before [] End ≡ record { verdict = accept_of before; taken = offset_of before }
 unfolding judge_from
 ends image limits bytes before = refl
 
 -- the End, where it decides nothing
-pub after_end : (image : ImageOf) (limits : Limits) (got front more : List ℕ) (before : List Message) (m : Message) →
+pub after_end : (image : Loaded) (limits : Limits) (got front more : List ℕ) (before : List Message) (m : Message) →
     cut (front ++ more) ≡ record { messages = m ∷ []; ending = End } → decided image limits before m ≡ None →
     judged_after image limits got before (front ++ more)
     ≡ record { verdict = accept_of (m ∷ before); taken = offset_of (m ∷ before) }
@@ -67,7 +67,7 @@ after_end image limits got front more before m cut_is none =
     ∙ next image limits (got ++ (front ++ more)) before m [] End none
     ∙ ends image limits (got ++ (front ++ more)) (m ∷ before)
 
-breaks : (image : ImageOf) (limits : Limits) (bytes : List ℕ) (before : List Message) (f : FrameFault) →
+breaks : (image : Loaded) (limits : Limits) (bytes : List ℕ) (before : List Message) (f : FrameFault) →
     judge_from image limits bytes before [] (Bad f)
     ≡ record { verdict = verdict.Reject (bad_frame_of before f); taken = offset_of before + needed (drop (offset_of before) bytes) }
 unfolding judge_from
@@ -77,7 +77,7 @@ abbrev bad_taken : List Message → FrameFault → ℕ → Judgement
 bad_taken before f n = record { verdict = verdict.Reject (bad_frame_of before f); taken = offset_of before + n }
 
 -- a frame that breaks the grammar
-pub after_bad : (image : ImageOf) (limits : Limits) (got front more : List ℕ) (before : List Message) (f : FrameFault) →
+pub after_bad : (image : Loaded) (limits : Limits) (got front more : List ℕ) (before : List Message) (f : FrameFault) →
     length got ≡ offset_of before → cut (front ++ more) ≡ record { messages = []; ending = Bad f } →
     needed (front ++ more) ≡ length front →
     judged_after image limits got before (front ++ more)
@@ -89,14 +89,14 @@ after_bad image limits got front more before f size cut_is needs =
     ∙ breaks image limits (got ++ (front ++ more)) before f
     ∙ ap (λ (n : ℕ). bad_taken before f n) (ap needed rest ∙ needs)
 
-stops : (image : ImageOf) (limits : Limits) (bytes : List ℕ) (before : List Message) (have : ℕ) →
+stops : (image : Loaded) (limits : Limits) (bytes : List ℕ) (before : List Message) (have : ℕ) →
     judge_from image limits bytes before [] (Short have)
     ≡ record { verdict = verdict.Reject (truncated_of before have); taken = offset_of before + have }
 unfolding judge_from
 stops image limits bytes before have = refl
 
 -- a frame of which only a part came
-pub after_short : (image : ImageOf) (limits : Limits) (got front : List ℕ) (before : List Message) (have : ℕ) →
+pub after_short : (image : Loaded) (limits : Limits) (got front : List ℕ) (before : List Message) (have : ℕ) →
     cut front ≡ record { messages = []; ending = Short have } →
     judged_after image limits got before front
     ≡ record { verdict = verdict.Reject (truncated_of before have); taken = offset_of before + have }

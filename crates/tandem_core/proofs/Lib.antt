@@ -2,5 +2,5 @@ pub mod CsrLaws
 pub mod RetireLaws
 pub mod StandsLaws
 pub mod JudgeLaws
+pub mod FrameLaws
 pub mod Progress
-pub mod SameImages

@@ -1,7 +1,9 @@
 -- How far the judging of a source has come, and what each next frame makes of it.
 use Rattle.std.proofs.Common.{◌≡◌, ℕ, ◌+◌, ◌≤◌, ◌<◌, ◌⊎◌, inl, inr, Bool, true, false, List, [], ◌∷◌, ◌++◌, length, refl, sym, ap, ◌∙◌, subst, arith, Option, None, Some, Ok, Err, append_assoc, length-append}
+use Rattle.std.specs.Prelude.{All, if◌then◌else◌}
 use Rattle.std.specs.Io.KnownBytes.{IsAtEnd}
 use Rattle.std.proofs.lemmas.Bool.{cases_Bool}
+use Rattle.std.proofs.lemmas.List.Elements.{All-nil, All-cons}
 use Rattle.tandem_io.specs.Told.{Log}
 use Rattle.msg_frames.specs.declared.message.Message.{Message}
 use Rattle.msg_frames.specs.declared.message.FrameFault.{FrameFault}
@@ -11,86 +13,85 @@ use Rattle.msg_frames.specs.Cut.{cut, needed, is_end}
 use Rattle.msg_frames.specs.Taking.{Took, IsWhole, IsShort}
 use Rattle.msg_frames.proofs.Taking.{Took-nil, Took-trans}
 use Rattle.msg_frames.proofs.CutLaws.{needed_least, needed_front, cut_message, cut_end, cut_bad, cut_short}
-use Rattle.elf_image.specs.Images.{ImageOf}
+use Rattle.elf_image.specs.Images.{Loaded}
 use Rattle.verdict_report.specs.declared.verdict.Verdict.{Verdict}
 use Rattle.verdict_report.specs.declared.verdict.Verdict.TheVariants as verdict
 use Rattle.tandem_core.specs.declared.core_state.Core.{Core}
-use Rattle.tandem_core.specs.declared.fed.Fed.{Fed}
-use Rattle.tandem_core.specs.declared.fed.Fed.TheVariants as fed
-use Rattle.tandem_core.specs.declared.fed.Limits.{Limits}
-use Rattle.tandem_core.specs.Runs.{size_of, offset_of}
-use Rattle.tandem_core.specs.Judgements.{Judgement, judgement, judge_from, decided, accept_of, bad_frame_of, truncated_of, IsQuiet}
-use Rattle.tandem_core.specs.Cores.{Stands, Answers, verdict_fed}
-use Rattle.tandem_core.specs.Judged.{Decides, Lacks}
-use Rattle.tandem_core.proofs.JudgeLaws.{judged_after, after_message, after_decision, after_end, after_bad, after_short}
+use Rattle.tandem_core.specs.declared.limits.Limits.{Limits}
+use Rattle.tandem_base.specs.FirstFault.{◌or_else◌}
+use Rattle.tandem_core.specs.Runs.{frames_of, offset_of}
+use Rattle.tandem_core.specs.Judgements.{Judgement, judgement, decided, accept_of, verdict_at, bad_frame_of, truncated_of}
+use Rattle.tandem_core.specs.Cores.{Stands}
+use Rattle.tandem_core.specs.Judging.{IsSpelled, Decides, Lacks}
+use Rattle.tandem_core.proofs.JudgeLaws.{judged_after, after_decision, after_end, after_bad, after_short}
+use Rattle.tandem_core.proofs.FrameLaws.{frames_size, frames_judged}
 
-pub record Progress (image : ImageOf) (limits : Limits) (core : Core) (left left' : Option (List ℕ)) (log log' : Log) : Type 0 where
+-- the core stands for messages whose frames are just what was taken
+pub record Progress (image : Loaded) (limits : Limits) (core : Core) (left left' : Option (List ℕ)) (log log' : Log) : Type 0 where
   pub before : List Message
-  pub got : List ℕ
-  pub took : Took left left' log log' got
-  pub stands : Stands image core before
-  pub limits_is : core.limits ≡ limits
-  pub size : length got ≡ offset_of before
-  pub same : (more : List ℕ) → judgement image limits (got ++ more) ≡ judged_after image limits got before more
+  pub took : Took left left' log log' (frames_of before)
+  pub stands : Stands image limits core before
+  pub spelled : All IsSpelled before
 
 -- nothing is taken yet
-pub begins : (image : ImageOf) (limits : Limits) (core : Core) (left : Option (List ℕ)) (log : Log) →
-    Stands image core [] → core.limits ≡ limits → Progress image limits core left left log log
-begins image limits core left log stands limits_is = record {
+pub begins : {image : Loaded} {limits : Limits} {core : Core} (left : Option (List ℕ)) (log : Log) →
+    Stands image limits core [] → Progress image limits core left left log log
+begins left log stands = record {
   before = [];
-  got = [];
   took = Took-nil left log;
   stands = stands;
-  limits_is = limits_is;
-  size = refl;
-  same = λ more. refl;
+  spelled = All-nil IsSpelled;
 }
 
--- the frame of a message is as long as what was taken for it
-grows : (got front : List ℕ) (before : List Message) (m : Message) → length got ≡ offset_of before → Spells front m →
-    length (got ++ front) ≡ offset_of (m ∷ before)
-unfolding size_of
-grows got front before m size spells =
-    let long : length front ≡ length (frame m) = ap length spells.is in
-    length-append got front ∙ ap (λ (n : ℕ). n + length front) size ∙ ap (λ (n : ℕ). offset_of before + n) long
+-- what was taken is one frame more
+pub takes : {left left' left'' : Option (List ℕ)} {log log' log'' : Log} (before : List Message) (front : List ℕ) →
+    Took left left' log log' (frames_of before) → Took left' left'' log' log'' front →
+    Took left left'' log log'' (frames_of before ++ front)
+takes {left} {left'} {left''} {log} {log'} {log''} before front took more =
+    Took-trans left left' left'' log log' log'' (frames_of before) front took more
 
--- the judgement of all, from what is left on
-from_here : (image : ImageOf) (limits : Limits) (got front more : List ℕ) (before : List Message) →
-    ((rest : List ℕ) → judgement image limits (got ++ rest) ≡ judged_after image limits got before rest) →
-    judgement image limits ((got ++ front) ++ more) ≡ judged_after image limits got before (front ++ more)
-from_here image limits got front more before same =
-    ap (λ (bytes : List ℕ). judgement image limits bytes) (append_assoc got front more) ∙ same (front ++ more)
-
--- a message that decides nothing
-pub goes_on : (image : ImageOf) (limits : Limits) (core core' : Core) (left left' left'' : Option (List ℕ)) (log log' log'' : Log)
+-- a message that ends with no verdict
+pub goes_on : {image : Loaded} {limits : Limits} {core core' : Core} {left left' left'' : Option (List ℕ)} {log log' log'' : Log}
     (front : List ℕ) (m : Message) (p : Progress image limits core left left' log log') →
-    Took left' left'' log' log'' front → IsWhole front → reading front ≡ Ok m → Spells front m →
-    Answers image core p.before m fed.Fine core' → core'.limits ≡ core.limits →
+    Took left' left'' log' log'' front → Spells front m → Stands image limits core' (m ∷ p.before) →
     Progress image limits core' left left'' log log''
-goes_on image limits core core' left left' left'' log log' log'' front m p took whole reads spells answers keeps =
-    let none : decided image limits p.before m ≡ None =
-    subst (λ (l : Limits). decided image l p.before m ≡ None) p.limits_is answers.0 in
-    record {
-      before = m ∷ p.before;
-      got = p.got ++ front;
-      took = Took-trans left left' left'' log log' log'' p.got front p.took took;
-      stands = answers.2;
-      limits_is = keeps ∙ p.limits_is;
-      size = grows p.got front p.before m p.size spells;
-      same = λ more.
-          from_here image limits p.got front more p.before p.same
-          ∙ after_message image limits p.got front more p.before m (cut_message front more m whole reads answers.1) none;
-    }
+goes_on {left = left} {left'' = left''} {log = log} {log'' = log''} front m p took spells stands = record {
+  before = m ∷ p.before;
+  took =
+      subst (λ (bytes : List ℕ). Took left left'' log log'' (frames_of p.before ++ bytes)) spells.is
+      (takes p.before front p.took took);
+  stands = stands;
+  spelled = All-cons IsSpelled m p.before (subst (λ (bytes : List ℕ). Spells bytes m) spells.is spells) p.spelled;
+}
+
+-- the judgement of all, from what was taken last on
+from_here : {image : Loaded} {limits : Limits} {core : Core} {left left' : Option (List ℕ)} {log log' : Log} (front more : List ℕ)
+    (p : Progress image limits core left left' log log') →
+    judgement image limits ((frames_of p.before ++ front) ++ more)
+    ≡ judged_after image limits (frames_of p.before) p.before (front ++ more)
+from_here {image} {limits} {core} {left} {left'} {log} {log'} front more p =
+    ap (λ (bytes : List ℕ). judgement image limits bytes) (append_assoc (frames_of p.before) front more)
+    ∙ frames_judged image limits p.before (front ++ more) p.spelled p.stands.quiet
+
+-- the length of what was taken with one more frame
+sized : (before : List Message) (front : List ℕ) → length (frames_of before ++ front) ≡ offset_of before + length front
+sized before front = length-append (frames_of before) front ∙ ap (λ (n : ℕ). n + length front) (frames_size before)
+
+grown : (before : List Message) (front : List ℕ) (m : Message) → Spells front m →
+    length (frames_of before ++ front) ≡ offset_of (m ∷ before)
+grown before front m spells =
+    ap (λ (bytes : List ℕ). length (frames_of before ++ bytes)) spells.is ∙ frames_size (m ∷ before)
+
+abbrev at_size : Verdict → ℕ → Judgement
+at_size v n = record { verdict = v; taken = n }
 
 -- a message that decides
-pub given_at : (image : ImageOf) (limits : Limits) (core : Core) (left left' left'' : Option (List ℕ)) (log log' : Log)
+given_at : {image : Loaded} {limits : Limits} {core : Core} {left left' left'' : Option (List ℕ)} {log log' : Log}
     (front : List ℕ) (m : Message) (v : Verdict) (p : Progress image limits core left left' log log') →
-    IsWhole front → reading front ≡ Ok m → Spells front m → decided image core.limits p.before m ≡ Some v →
-    Decides image limits (p.got ++ front) left'' v
-given_at image limits core left left' left'' log log' front m v p whole reads spells some =
-    let here : decided image limits p.before m ≡ Some v =
-    subst (λ (l : Limits). decided image l p.before m ≡ Some v) p.limits_is some in
-    let size = grows p.got front p.before m p.size spells in
+    IsWhole front → reading front ≡ Ok m → Spells front m → decided image limits p.before m ≡ Some v →
+    Decides image limits (frames_of p.before ++ front) left'' v
+given_at {image} {limits} {core} {left} {left'} {left''} {log} {log'} front m v p whole reads spells here =
+    let size = grown p.before front m spells in
     let first : (more : List ℕ) → (later : List Message) × ((cut (front ++ more)).messages ≡ m ∷ later) =
     λ more. elim (cases_Bool (is_end m.body)) [
       | inl ends ↦ ([], ap (λ c. c.messages) (cut_end front more m whole reads ends))
@@ -98,104 +99,89 @@ given_at image limits core left left' left'' log log' front m v p whole reads sp
     ] in
     record {
       verdict = inl (λ more.
-          from_here image limits p.got front more p.before p.same
-          ∙ after_decision image limits p.got front more p.before m (first more).0 v (first more).1 here
-          ∙ ap (λ (n : ℕ). let j : Judgement = record { verdict = v; taken = n } in j) (sym size));
+          from_here front more p
+          ∙ after_decision image limits (frames_of p.before) front more p.before m (first more).0 v (first more).1 here
+          ∙ ap (λ (n : ℕ). at_size v n) (sym size));
     }
 
 -- the End
-pub given_at_end : (image : ImageOf) (limits : Limits) (core : Core) (left left' left'' : Option (List ℕ)) (log log' : Log)
+given_at_end : {image : Loaded} {limits : Limits} {core : Core} {left left' left'' : Option (List ℕ)} {log log' : Log}
     (front : List ℕ) (m : Message) (v : Verdict) (p : Progress image limits core left left' log log') →
-    IsWhole front → reading front ≡ Ok m → Spells front m → decided image core.limits p.before m ≡ None →
+    IsWhole front → reading front ≡ Ok m → Spells front m → decided image limits p.before m ≡ None →
     is_end m.body ≡ true → v ≡ accept_of (m ∷ p.before) →
-    Decides image limits (p.got ++ front) left'' v
-given_at_end image limits core left left' left'' log log' front m v p whole reads spells none ends is =
-    let here : decided image limits p.before m ≡ None =
-    subst (λ (l : Limits). decided image l p.before m ≡ None) p.limits_is none in
-    let size = grows p.got front p.before m p.size spells in
+    Decides image limits (frames_of p.before ++ front) left'' v
+given_at_end {image} {limits} {core} {left} {left'} {left''} {log} {log'} front m v p whole reads spells here ends is =
+    let size = grown p.before front m spells in
     record {
       verdict = inl (λ more.
-          from_here image limits p.got front more p.before p.same
-          ∙ after_end image limits p.got front more p.before m (cut_end front more m whole reads ends) here
-          ∙ ap (λ (w : Verdict). let j : Judgement = record { verdict = w; taken = offset_of (m ∷ p.before) } in j) (sym is)
-          ∙ ap (λ (n : ℕ). let j : Judgement = record { verdict = v; taken = n } in j) (sym size));
+          from_here front more p
+          ∙ after_end image limits (frames_of p.before) front more p.before m (cut_end front more m whole reads ends) here
+          ∙ ap (λ (w : Verdict). at_size w (offset_of (m ∷ p.before))) (sym is)
+          ∙ ap (λ (n : ℕ). at_size v n) (sym size));
     }
 
--- each answer but Fine
-pub given_by : (image : ImageOf) (limits : Limits) (core core' : Core) (left left' left'' : Option (List ℕ)) (log log' : Log)
-    (front : List ℕ) (m : Message) (f : Fed) (v : Verdict) (p : Progress image limits core left left' log log') →
-    IsWhole front → reading front ≡ Ok m → Spells front m → Answers image core p.before m f core' → verdict_fed f ≡ Some v →
-    Decides image limits (p.got ++ front) left'' v
-given_by image limits core core' left left' left'' log log' front m fed.Fine v p whole reads spells answers is = absurd (cc)
-given_by image limits core core' left left' left'' log log' front m (fed.Fault report) v p whole reads spells answers is =
-    given_at image limits core left left' left'' log log' front m v p whole reads spells (answers ∙ is)
-given_by image limits core core' left left' left'' log log' front m (fed.Full message limit hart count) v p whole reads spells answers is =
-    given_at image limits core left left' left'' log log' front m v p whole reads spells (answers ∙ is)
-given_by image limits core core' left left' left'' log log' front m (fed.Done messages retired operations) v p whole reads spells answers is =
-    let same : v ≡ verdict.Accept messages retired operations = cc in
-    given_at_end image limits core left left' left'' log log' front m v p whole reads spells answers.0 answers.1 (same ∙ answers.2)
+-- a verdict is that of the message, or of the End
+either_way : (first : Option Verdict) (ends : Bool) (v w : Verdict) → ◌or_else◌ first (if ends then Some w else None) ≡ Some v →
+    (first ≡ Some v) ⊎ ((first ≡ None) × (ends ≡ true) × (v ≡ w))
+either_way (Some u) ends v w e = inl e
+either_way None true v w e = inr (refl, refl, cc)
+either_way None false v w e = absurd (cc)
+
+-- a message that ends with a verdict
+pub given_by : {image : Loaded} {limits : Limits} {core : Core} {left left' left'' : Option (List ℕ)} {log log' : Log}
+    (front : List ℕ) (m : Message) (v : Verdict) (p : Progress image limits core left left' log log') →
+    IsWhole front → reading front ≡ Ok m → Spells front m → verdict_at image limits p.before m ≡ Some v →
+    Decides image limits (frames_of p.before ++ front) left'' v
+given_by {image} {limits} {core} {left} {left'} {left''} {log} {log'} front m v p whole reads spells is =
+    elim (either_way (decided image limits p.before m) (is_end m.body) v (accept_of (m ∷ p.before)) is) [
+      | inl here ↦ given_at front m v p whole reads spells here
+      | inr ended ↦ given_at_end front m v p whole reads spells ended.0 ended.1 ended.2
+    ]
 
 -- a frame that spells no message
-pub malformed : (image : ImageOf) (limits : Limits) (core : Core) (left left' left'' : Option (List ℕ)) (log log' : Log)
+pub malformed : {image : Loaded} {limits : Limits} {core : Core} {left left' left'' : Option (List ℕ)} {log log' : Log}
     (front : List ℕ) (f : FrameFault) (v : Verdict) (p : Progress image limits core left left' log log') →
     IsWhole front → reading front ≡ Err f → v ≡ verdict.Reject (bad_frame_of p.before f) →
-    Decides image limits (p.got ++ front) left'' v
-malformed image limits core left left' left'' log log' front f v p whole reads is =
+    Decides image limits (frames_of p.before ++ front) left'' v
+malformed {image} {limits} {core} {left} {left'} {left''} {log} {log'} front f v p whole reads is =
     let least = needed_least front in
-    let size : length (p.got ++ front) ≡ offset_of p.before + length front =
-    length-append p.got front ∙ ap (λ (n : ℕ). n + length front) p.size in
     record {
       verdict = inl (λ more.
-          from_here image limits p.got front more p.before p.same
-          ∙ after_bad image limits p.got front more p.before f p.size (cut_bad front more f whole reads)
+          from_here front more p
+          ∙ after_bad image limits (frames_of p.before) front more p.before f (frames_size p.before) (cut_bad front more f whole reads)
           (needed_front front more (omega arith) ∙ sym whole)
-          ∙ ap (λ (w : Verdict). let j : Judgement = record { verdict = w; taken = offset_of p.before + length front } in j) (sym is)
-          ∙ ap (λ (n : ℕ). let j : Judgement = record { verdict = v; taken = n } in j) (sym size));
+          ∙ ap (λ (w : Verdict). at_size w (offset_of p.before + length front)) (sym is)
+          ∙ ap (λ (n : ℕ). at_size v n) (sym (sized p.before front)));
     }
 
 -- the end of the input within a frame
-pub ends_short : (image : ImageOf) (limits : Limits) (core : Core) (left left' left'' : Option (List ℕ)) (log log' : Log)
+pub ends_short : {image : Loaded} {limits : Limits} {core : Core} {left left' left'' : Option (List ℕ)} {log log' : Log}
     (front : List ℕ) (have : ℕ) (v : Verdict) (p : Progress image limits core left left' log log') →
     IsShort front → length front ≡ have → IsAtEnd left'' → v ≡ verdict.Reject (truncated_of p.before have) →
-    Decides image limits (p.got ++ front) left'' v
-ends_short image limits core left left' left'' log log' front have v p short size_is at_end is =
-    let size : length (p.got ++ front) ≡ offset_of p.before + have =
-    length-append p.got front ∙ ap (λ (n : ℕ). n + length front) p.size ∙ ap (λ (n : ℕ). offset_of p.before + n) size_is in
+    Decides image limits (frames_of p.before ++ front) left'' v
+ends_short {image} {limits} {core} {left} {left'} {left''} {log} {log'} front have v p short size_is at_end is =
+    let size : length (frames_of p.before ++ front) ≡ offset_of p.before + have =
+    sized p.before front ∙ ap (λ (n : ℕ). offset_of p.before + n) size_is in
     record {
       verdict = inr (
         at_end,
-        p.same front
-            ∙ after_short image limits p.got front p.before (length front) (cut_short front short)
-            ∙ ap (λ (n : ℕ). let j : Judgement = record { verdict = verdict.Reject (truncated_of p.before n); taken = offset_of p.before + n } in j) size_is
-            ∙ ap (λ (w : Verdict). let j : Judgement = record { verdict = w; taken = offset_of p.before + have } in j) (sym is)
-            ∙ ap (λ (n : ℕ). let j : Judgement = record { verdict = v; taken = n } in j) (sym size),
+        frames_judged image limits p.before front p.spelled p.stands.quiet
+            ∙ after_short image limits (frames_of p.before) front p.before (length front) (cut_short front short)
+            ∙ ap (λ (n : ℕ). at_size (verdict.Reject (truncated_of p.before n)) (offset_of p.before + n)) size_is
+            ∙ ap (λ (w : Verdict). at_size w (offset_of p.before + have)) (sym is)
+            ∙ ap (λ (n : ℕ). at_size v n) (sym size),
       );
     }
 
 -- a read that failed within a frame
-pub lacks_part : (image : ImageOf) (limits : Limits) (core : Core) (left left' : Option (List ℕ)) (log log' : Log)
+pub lacks_part : {image : Loaded} {limits : Limits} {core : Core} {left left' : Option (List ℕ)} {log log' : Log}
     (front : List ℕ) (p : Progress image limits core left left' log log') → IsShort front →
-    Lacks image limits (p.got ++ front)
-lacks_part image limits core left left' log log' front p short =
-    let quiet : IsQuiet image limits p.before =
-    subst (λ (l : Limits). IsQuiet image l p.before) p.limits_is p.stands.quiet in
-    record {
-      before = p.before;
-      whole = p.got;
-      part = front;
-      is = refl;
-      size = p.size;
-      quiet = quiet;
-      short = short;
-      goes_on = λ more.
-          from_here image limits p.got front more p.before p.same
-          ∙ ap (λ (bytes : List ℕ). judge_from image limits bytes p.before (cut (front ++ more)).messages (cut (front ++ more)).ending)
-          (sym (append_assoc p.got front more));
-    }
-
--- an answer that is no verdict is Fine
-pub fine_when : (f : Fed) → verdict_fed f ≡ None → f ≡ fed.Fine
-fine_when fed.Fine e = refl
-fine_when (fed.Fault report) e = absurd (cc)
-fine_when (fed.Full message limit hart count) e = absurd (cc)
-fine_when (fed.Done messages retired operations) e = absurd (cc)
+    Lacks image limits (frames_of p.before ++ front)
+lacks_part front p short = record {
+  before = p.before;
+  part = front;
+  is = refl;
+  spelled = p.spelled;
+  quiet = p.stands.quiet;
+  short = short;
+}

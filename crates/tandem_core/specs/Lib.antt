@@ -1,6 +1,7 @@
+pub mod Limits
 pub mod Compares
 pub mod Retires
 pub mod Runs
 pub mod Judgements
 pub mod Cores
-pub mod Judged
+pub mod Judging

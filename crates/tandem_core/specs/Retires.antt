@@ -4,7 +4,7 @@ use Rattle.std.specs.declared.option.Option.{Option}
 use Rattle.msg_frames.specs.declared.message.Poke.{Poke}
 use Rattle.msg_frames.specs.declared.message.RdValue.{RdValue}
 use Rattle.msg_frames.specs.declared.message.Retire.{Retire}
-use Rattle.elf_image.specs.Images.{ImageOf}
+use Rattle.elf_image.specs.Images.{Loaded}
 use Rattle.rv_decode.specs.declared.instruction.Insn.{Insn}
 use Rattle.rv_decode.specs.declared.instruction.Insn.TheVariants as insn
 use Rattle.rv_step.specs.declared.hart.Hart.{Hart}
@@ -12,16 +12,18 @@ use Rattle.rv_step.specs.declared.plan.Config.{Config}
 use Rattle.rv_step.specs.declared.effect.Effect.{Effect}
 use Rattle.rv_step.specs.declared.effect.Outside.{Outside}
 use Rattle.rv_step.specs.Harts.{at_start, poked}
-use Rattle.rv_step.specs.Steps.{Doing, trap, plain, counter, load, store, lr, sc, amo, finished}
-use Rattle.rv_step.specs.Plans.{PlanOf, plan_of}
+use Rattle.rv_step.specs.Steps.{Doing, Done, trap, plain, counter, load, store, lr, sc, amo}
+use Rattle.rv_step.specs.Plans.{plan_of, Step}
 use Rattle.verdict_report.specs.declared.fault.Fault.{Fault}
 use Rattle.verdict_report.specs.declared.fault.Fault.TheVariants as fault
-use Rattle.tandem_core.specs.declared.hart_state.Clocks.{Clocks}
-use Rattle.tandem_core.specs.declared.hart_state.HartState.{HartState}
-use Rattle.tandem_core.specs.Compares.{tag_fault_of, pc_fault_of, word_fault_of, trap_fault_of, next_fault_of, rd_fault_of, csr_fault_of, ◌or_else◌}
+use Rattle.tandem_core.specs.declared.hart_run.Clocks.{Clocks}
+use Rattle.tandem_core.specs.declared.hart_run.HartRun.{HartRun}
+use Rattle.tandem_base.specs.CsrNumbers as csr
+use Rattle.tandem_base.specs.FirstFault.{◌or_else◌}
+use Rattle.tandem_core.specs.Compares.{tag_fault_of, pc_fault_of, word_fault_of, trap_fault_of, next_fault_of, rd_want_of, rd_fault_of, csr_fault_of}
 
 -- a hart before its first message
-abbrev pub started : ℕ → ℕ → HartState
+abbrev pub started : ℕ → ℕ → HartRun
 started number entry =
     record { hart = at_start number entry; last = None; clocks = record { cycle = 0; time = 0 } }
 
@@ -45,6 +47,7 @@ is_built (lr i addr len) = false
 is_built (sc i addr len) = false
 is_built (amo i addr len) = false
 
+-- an instruction that is not judged yet
 abbrev pub unbuilt_fault_of : Doing → Option Fault
 unbuilt_fault_of doing = if is_built doing then None else Some fault.Unbuilt
 
@@ -53,9 +56,9 @@ abbrev pub csr_number : Insn → ℕ
 csr_number (insn.Csr op rd source number) = number
 csr_number _ = 0
 
--- the last reported value of a counter: 0xC00 is cycle, 0xC01 time
+-- the last reported value of a counter, cycle or time
 abbrev pub clock_at : ℕ → Clocks → ℕ
-clock_at number clocks = if number == 0xC00 then clocks.cycle else clocks.time
+clock_at number clocks = if number == csr.cycle then clocks.cycle else clocks.time
 
 -- that of the counter which the instruction reads, none where it reads none
 abbrev pub clock_read : Doing → Clocks → Option ℕ
@@ -68,9 +71,10 @@ clock_read (lr i addr len) clocks = None
 clock_read (sc i addr len) clocks = None
 clock_read (amo i addr len) clocks = None
 
+-- one of the counters set
 abbrev pub clock_set : ℕ → ℕ → Clocks → Clocks
 clock_set number value clocks =
-    if number == 0xC00 then record clocks { cycle = value } else record clocks { time = value }
+    if number == csr.cycle then record clocks { cycle = value } else record clocks { time = value }
 
 -- the counters after a Retire: one that was read into a register has the value reported there
 abbrev pub clocks_after : Doing → Option RdValue → Clocks → Clocks
@@ -84,6 +88,11 @@ clocks_after (lr i addr len) rd clocks = clocks
 clocks_after (sc i addr len) rd clocks = clocks
 clocks_after (amo i addr len) rd clocks = clocks
 
+-- what was written: the register, and the CSRs
+abbrev pub written_fault_of : Option ℕ → Effect → Retire → Option Fault
+written_fault_of clock effect retire =
+    rd_fault_of (rd_want_of clock effect.rd) retire.rd or_else csr_fault_of effect.csrs retire.csrs
+
 -- what the Retire reports against the model's pc, word and effect, in the order of the faults
 abbrev pub difference_of : Option ℕ → ℕ → ℕ → Effect → Retire → Option Fault
 difference_of clock pc word effect retire =
@@ -91,34 +100,33 @@ difference_of clock pc word effect retire =
     or_else word_fault_of word retire.word
     or_else trap_fault_of effect.trap retire.trap
     or_else next_fault_of effect.next retire.next
-    or_else rd_fault_of clock effect.rd retire.rd
-    or_else csr_fault_of effect.csrs retire.csrs
+    or_else written_fault_of clock effect retire
 
--- the first fault of a Retire of this tag, where the hart is so before it and has this plan
-abbrev pub retire_fault_by : PlanOf → HartState → ℕ → Retire → Option Fault
-retire_fault_by plan state tag retire =
-    tag_fault_of state.last tag
+-- the step of the hart, with what the report says of the outside
+abbrev pub step_of : Loaded → Config → HartRun → Retire → Done
+step_of image config run retire = Step run.hart image config (outside_of retire)
+
+-- the first fault of a Retire of this tag, where the hart is so before it
+abbrev pub retire_fault_of : Loaded → Config → HartRun → ℕ → Retire → Option Fault
+retire_fault_of image config run tag retire =
+    let plan = plan_of run.hart image config in
+    tag_fault_of run.last tag
     or_else unbuilt_fault_of plan.doing
-    or_else difference_of (clock_read plan.doing state.clocks) state.hart.pc plan.word
-    (finished state.hart (outside_of retire) plan.doing).effect retire
+    or_else difference_of (clock_read plan.doing run.clocks) run.hart.pc plan.word
+    (step_of image config run retire).effect retire
 
-abbrev pub retire_fault_of : ImageOf → Config → HartState → ℕ → Retire → Option Fault
-retire_fault_of image config state tag retire = retire_fault_by (plan_of state.hart image config) state tag retire
-
--- the hart after it
-abbrev pub state_retired_by : PlanOf → HartState → ℕ → Retire → HartState
-state_retired_by plan state tag retire = record {
-  hart = (finished state.hart (outside_of retire) plan.doing).hart;
+-- the hart after a Retire of this tag
+abbrev pub run_retired : Loaded → Config → HartRun → ℕ → Retire → HartRun
+run_retired image config run tag retire = record {
+  hart = (step_of image config run retire).hart;
   last = Some tag;
-  clocks = clocks_after plan.doing retire.rd state.clocks;
+  clocks = clocks_after (plan_of run.hart image config).doing retire.rd run.clocks;
 }
 
-abbrev pub state_retired : ImageOf → Config → HartState → ℕ → Retire → HartState
-state_retired image config state tag retire = state_retired_by (plan_of state.hart image config) state tag retire
-
 -- a Poke comes before the hart's first Retire
-abbrev pub poke_fault_of : HartState → Option Fault
-poke_fault_of state = if is_some state.last then Some fault.LatePoke else None
+abbrev pub poke_fault_of : HartRun → Option Fault
+poke_fault_of run = if is_some run.last then Some fault.LatePoke else None
 
-abbrev pub state_poked : HartState → Poke → HartState
-state_poked state poke = record state { hart = poked state.hart poke.target poke.value }
+-- the hart after a Poke
+abbrev pub run_poked : HartRun → Poke → HartRun
+run_poked run poke = record run { hart = poked run.hart poke.target poke.value }

@@ -1,6 +1,6 @@
 -- What the messages of a stream say. A list of messages stands with the newest first, so that one more message is put
 -- in front.
-use Rattle.std.specs.Prelude.{ℕ, ◌+◌, ◌/◌, ◌%◌, ◌==◌, nat_lt, Bool, true, false, Some, None, if◌then◌else◌, is_some, List, [], ◌∷◌, length}
+use Rattle.std.specs.Prelude.{ℕ, ◌+◌, ◌/◌, ◌%◌, ◌==◌, nat_lt, Bool, true, false, Some, None, if◌then◌else◌, is_some, List, [], ◌∷◌, ◌++◌, length}
 use Rattle.std.specs.declared.option.Option.{Option}
 use Rattle.std.specs.Option.{option_map_or}
 use Rattle.msg_frames.specs.declared.message.Head.{Head}
@@ -9,14 +9,15 @@ use Rattle.msg_frames.specs.declared.message.Body.{Body}
 use Rattle.msg_frames.specs.declared.message.Body.TheVariants as body
 use Rattle.msg_frames.specs.declared.message.Message.{Message}
 use Rattle.msg_frames.specs.Frames.{frame}
-use Rattle.elf_image.specs.Images.{ImageOf}
+use Rattle.elf_image.specs.Images.{Loaded}
 use Rattle.rv_step.specs.declared.plan.Config.{Config}
 use Rattle.verdict_report.specs.declared.fault.Fault.{Fault}
 use Rattle.verdict_report.specs.declared.fault.Fault.TheVariants as fault
-use Rattle.tandem_core.specs.declared.hart_state.HartState.{HartState}
-use Rattle.tandem_core.specs.Compares.{◌or_else◌}
-use Rattle.tandem_core.specs.Retires.{started, state_retired, state_poked, retire_fault_of, poke_fault_of}
+use Rattle.tandem_core.specs.declared.hart_run.HartRun.{HartRun}
+use Rattle.tandem_base.specs.FirstFault.{◌or_else◌}
+use Rattle.tandem_core.specs.Retires.{started, run_retired, run_poked, retire_fault_of, poke_fault_of}
 
+-- what an Open says
 abbrev pub open_of : Body → Option OpenInfo
 open_of (body.Open info) = Some info
 open_of (body.Poke poke) = None
@@ -28,6 +29,7 @@ open_of (body.Retire retire) = None
 open_of body.Squash = None
 open_of body.End = None
 
+-- the message is a Retire
 abbrev pub is_retire : Body → Bool
 is_retire (body.Open info) = false
 is_retire (body.Poke poke) = false
@@ -39,6 +41,7 @@ is_retire (body.Retire retire) = true
 is_retire body.Squash = false
 is_retire body.End = false
 
+-- the message is an Open
 abbrev pub is_open : Body → Bool
 is_open b = is_some (open_of b)
 
@@ -62,13 +65,18 @@ last_time [] = 0
 last_time (m ∷ before) = m.head.time
 
 -- how many bytes the frame of a message takes
-unfoldable pub size_of : Message → ℕ
-size_of m = length (frame m)
+unfoldable pub frame_size : Message → ℕ
+frame_size m = length (frame m)
+
+-- the frames of the messages, in the order in which they came
+abbrev pub frames_of : List Message → List ℕ
+frames_of [] = []
+frames_of (m ∷ before) = frames_of before ++ frame m
 
 -- how many bytes the messages take
 abbrev pub offset_of : List Message → ℕ
 offset_of [] = 0
-offset_of (m ∷ before) = offset_of before + size_of m
+offset_of (m ∷ before) = offset_of before + frame_size m
 
 -- how many of the messages are Retires
 abbrev pub retired_of : List Message → ℕ
@@ -76,22 +84,22 @@ retired_of [] = 0
 retired_of (m ∷ before) = if is_retire m.body then retired_of before + 1 else retired_of before
 
 -- a hart after a message of its own
-abbrev pub state_after : ImageOf → Config → HartState → Head → Body → HartState
-state_after image config state head (body.Open info) = state
-state_after image config state head (body.Poke poke) = state_poked state poke
-state_after image config state head (body.Read piece) = state
-state_after image config state head (body.Insert piece) = state
-state_after image config state head (body.Write write) = state
-state_after image config state head (body.Bypass piece) = state
-state_after image config state head (body.Retire retire) = state_retired image config state head.tag retire
-state_after image config state head body.Squash = state
-state_after image config state head body.End = state
+abbrev pub run_after : Loaded → Config → HartRun → Head → Body → HartRun
+run_after image config run head (body.Open info) = run
+run_after image config run head (body.Poke poke) = run_poked run poke
+run_after image config run head (body.Read piece) = run
+run_after image config run head (body.Insert piece) = run
+run_after image config run head (body.Write write) = run
+run_after image config run head (body.Bypass piece) = run
+run_after image config run head (body.Retire retire) = run_retired image config run head.tag retire
+run_after image config run head body.Squash = run
+run_after image config run head body.End = run
 
 -- hart h after these messages: its Pokes and Retires in their order, the other harts' messages left out
-abbrev pub hart_of : ImageOf → ℕ → List Message → HartState
+abbrev pub hart_of : Loaded → ℕ → List Message → HartRun
 hart_of image h [] = started h image.entry
 hart_of image h (m ∷ before) =
-    if m.head.hart == h then state_after image (config_of before) (hart_of image h before) m.head m.body
+    if m.head.hart == h then run_after image (config_of before) (hart_of image h before) m.head m.body
     else hart_of image h before
 
 -- Message 1 is the Open and no later one is; a hart is below the number of harts; time doesn't fall.
@@ -104,19 +112,19 @@ stream_fault_of (last ∷ before) m =
     else Some fault.BadHart
 
 -- what is wrong with a message of a hart that is so before it
-abbrev pub body_fault_of : ImageOf → Config → HartState → Head → Body → Option Fault
-body_fault_of image config state head (body.Open info) = None
-body_fault_of image config state head (body.Poke poke) = poke_fault_of state
-body_fault_of image config state head (body.Read piece) = Some fault.Unbuilt
-body_fault_of image config state head (body.Insert piece) = Some fault.Unbuilt
-body_fault_of image config state head (body.Write write) = Some fault.Unbuilt
-body_fault_of image config state head (body.Bypass piece) = Some fault.Unbuilt
-body_fault_of image config state head (body.Retire retire) = retire_fault_of image config state head.tag retire
-body_fault_of image config state head body.Squash = Some fault.Unbuilt
-body_fault_of image config state head body.End = None
+abbrev pub body_fault_of : Loaded → Config → HartRun → Head → Body → Option Fault
+body_fault_of image config run head (body.Open info) = None
+body_fault_of image config run head (body.Poke poke) = poke_fault_of run
+body_fault_of image config run head (body.Read piece) = Some fault.Unbuilt
+body_fault_of image config run head (body.Insert piece) = Some fault.Unbuilt
+body_fault_of image config run head (body.Write write) = Some fault.Unbuilt
+body_fault_of image config run head (body.Bypass piece) = Some fault.Unbuilt
+body_fault_of image config run head (body.Retire retire) = retire_fault_of image config run head.tag retire
+body_fault_of image config run head body.Squash = Some fault.Unbuilt
+body_fault_of image config run head body.End = None
 
 -- The first fault of a message after these, in the order of the faults.
-abbrev pub message_fault_of : ImageOf → List Message → Message → Option Fault
+abbrev pub message_fault_of : Loaded → List Message → Message → Option Fault
 message_fault_of image before m =
     stream_fault_of before m
     or_else body_fault_of image (config_of before) (hart_of image m.head.hart before) m.head m.body

@@ -1,116 +1,128 @@
+//! What a Retire reports against what the model gives: one check for each fault.
+
 ghost use Rattle.std.specs.Prelude.{◌≡◌};
-ghost use Rattle.tandem_core.specs.Compares.{tag_fault_of, pc_fault_of, word_fault_of, trap_fault_of, next_fault_of, exact_rd_fault_of, rd_fault_of, csr_entry_fault_of, csr_fault_of};
+ghost use Rattle.tandem_base.specs.FirstFault.{passed};
+ghost use Rattle.tandem_core.specs.Compares.{tag_fault_of, pc_fault_of, word_fault_of, trap_fault_of, next_fault_of, rd_want_of, meets, rd_fault_of, csr_entry_fault_of, csr_fault_of};
 
 use msg_frames::{CsrList, CsrValue, RdValue};
 use verdict_report::{Fault, RdWant};
 
 /// A Retire's tag has to be above the last retired one.
-pub fn tag_fault(last: Option<u64>, tag: u64) -> Option<Fault>
-    ensures { result ≡ tag_fault_of last tag }
+pub fn check_tag(last: Option<u64>, tag: u64) -> Result<(), Fault>
+    ensures { result ≡ passed (tag_fault_of last tag) }
 {
     match last {
-        Some(last) if tag <= last => Some(Fault::TagOrder { last }),
-        _ => None,
+        Some(last) if tag <= last => Err(Fault::TagOrder { last }),
+        _ => Ok(()),
     }
 }
 
-pub fn pc_fault(want: u64, got: u64) -> Option<Fault>
-    ensures { result ≡ pc_fault_of want got }
+/// The address of the instruction.
+pub fn check_pc(want: u64, got: u64) -> Result<(), Fault>
+    ensures { result ≡ passed (pc_fault_of want got) }
 {
     if want == got {
-        None
+        Ok(())
     } else {
-        Some(Fault::Pc { want, got })
+        Err(Fault::Pc { want, got })
     }
 }
 
-pub fn word_fault(want: u32, got: u32) -> Option<Fault>
-    ensures { result ≡ word_fault_of want got }
+/// The word of the instruction.
+pub fn check_word(want: u32, got: u32) -> Result<(), Fault>
+    ensures { result ≡ passed (word_fault_of want got) }
 {
     if want == got {
-        None
+        Ok(())
     } else {
-        Some(Fault::Word { want, got })
+        Err(Fault::Word { want, got })
     }
 }
 
-pub fn trap_fault(want: Option<u8>, got: Option<u8>) -> Option<Fault>
-    ensures { result ≡ trap_fault_of want got }
-{
-    match (want, got) {
-        (None, None) => None,
-        (Some(cause), Some(reported)) if cause == reported => None,
-        _ => Some(Fault::Trap { want, got }),
-    }
-}
-
-pub fn next_fault(want: u64, got: u64) -> Option<Fault>
-    ensures { result ≡ next_fault_of want got }
+/// Whether the instruction trapped, and the cause.
+pub fn check_trap(want: Option<u8>, got: Option<u8>) -> Result<(), Fault>
+    ensures { result ≡ passed (trap_fault_of want got) }
 {
     if want == got {
-        None
+        Ok(())
     } else {
-        Some(Fault::NextPc { want, got })
+        Err(Fault::Trap { want, got })
     }
 }
 
-fn exact_rd_fault(want: Option<RdValue>, got: Option<RdValue>) -> Option<Fault>
-    ensures { result ≡ exact_rd_fault_of want got }
+/// The address of the next instruction.
+pub fn check_next(want: u64, got: u64) -> Result<(), Fault>
+    ensures { result ≡ passed (next_fault_of want got) }
 {
-    match (want, got) {
-        (None, None) => None,
-        (Some(rd), Some(reported)) if rd == reported => None,
-        (None, Some(_)) => Some(Fault::Rd {
-            want: RdWant::Absent,
-            got,
-        }),
-        (Some(rd), _) => Some(Fault::Rd {
-            want: RdWant::Value(rd),
-            got,
-        }),
+    if want == got {
+        Ok(())
+    } else {
+        Err(Fault::NextPc { want, got })
     }
 }
 
-/// `last` is the last reported value of the counter that the instruction reads, None where it reads
-/// none.
-pub fn rd_fault(last: Option<u64>, want: Option<RdValue>, got: Option<RdValue>) -> Option<Fault>
-    ensures { result ≡ rd_fault_of last want got }
+/// What is wanted of the register that the model writes, if it writes one. `last` is the last
+/// reported value of the counter that the instruction reads, None where it reads none.
+fn rd_want(last: Option<u64>, rd: Option<RdValue>) -> RdWant
+    ensures { result ≡ rd_want_of last rd }
 {
-    let (Some(value), Some(rd)) = (last, want) else {
-        return exact_rd_fault(want, got);
-    };
-    match got {
-        Some(reported) if reported.number == rd.number && value <= reported.value => None,
-        _ => Some(Fault::Rd {
-            want: RdWant::AtLeast(RdValue {
-                number: rd.number,
-                value,
-            }),
-            got,
+    match (last, rd) {
+        (_, None) => RdWant::Absent,
+        (None, Some(rd)) => RdWant::Value(rd),
+        (Some(value), Some(rd)) => RdWant::AtLeast(RdValue {
+            number: rd.number,
+            value,
         }),
     }
 }
 
-fn csr_entry_fault(index: u8, want: Option<CsrValue>, got: Option<CsrValue>) -> Option<Fault>
-    ensures { result ≡ csr_entry_fault_of index want got }
+/// Whether what is reported of a register is what is wanted of it.
+fn is_met(want: RdWant, got: Option<RdValue>) -> bool
+    ensures { result ≡ meets want got }
 {
     match (want, got) {
-        (None, None) => None,
-        (Some(value), Some(reported)) if value == reported => None,
-        _ => Some(Fault::Csr { index, want, got }),
+        (RdWant::Absent, None) => true,
+        (RdWant::Value(rd), Some(got)) => rd == got,
+        (RdWant::Nonzero(number), Some(got)) => number == got.number && got.value != 0,
+        (RdWant::AtLeast(rd), Some(got)) => rd.number == got.number && rd.value <= got.value,
+        _ => false,
     }
 }
 
-/// The first entry in which the lists of written CSRs differ.
-pub fn csr_fault(wants: &CsrList, gots: &CsrList) -> Option<Fault>
-    ensures { result ≡ csr_fault_of wants.now gots.now }
+/// The register that was written, and its value. `last` is the last reported value of the counter
+/// that the instruction reads, None where it reads none.
+pub fn check_rd(last: Option<u64>, rd: Option<RdValue>, got: Option<RdValue>) -> Result<(), Fault>
+    ensures { result ≡ passed (rd_fault_of (rd_want_of last rd) got) }
+{
+    let want = rd_want(last, rd);
+    if is_met(want, got) {
+        Ok(())
+    } else {
+        Err(Fault::Rd { want, got })
+    }
+}
+
+/// One entry of the lists of written CSRs, which either list may lack.
+fn check_csr(index: u8, want: Option<CsrValue>, got: Option<CsrValue>) -> Result<(), Fault>
+    ensures { result ≡ passed (csr_entry_fault_of index want got) }
+{
+    if want == got {
+        Ok(())
+    } else {
+        Err(Fault::Csr { index, want, got })
+    }
+}
+
+/// The CSRs that were written: the first entry in which the two lists differ is at fault.
+pub fn check_csrs(wants: &CsrList, gots: &CsrList) -> Result<(), Fault>
+    ensures { result ≡ passed (csr_fault_of wants.now gots.now) }
 {
     let longest = wants.len().max(gots.len());
     for index in 0..longest {
-        let fault = csr_entry_fault(index as u8, wants.get(index), gots.get(index));
-        if fault.is_some() {
-            return fault;
+        match check_csr(index as u8, wants.get(index), gots.get(index)) {
+            Ok(()) => {}
+            Err(fault) => return Err(fault),
         }
     }
-    None
+    Ok(())
 }

@@ -1,17 +1,9 @@
+//! The answer to a message.
+
 ghost use Rattle.std.specs.Prelude.{◌≡◌};
-ghost use Rattle.tandem_core.specs.Cores.{closing_of, verdict_fed};
+ghost use Rattle.tandem_core.specs.Cores.{fed_as};
 
 use verdict_report::{Limit, Report, Verdict};
-
-/// How far the counts of a run may go: `messages` from 1 to 4,000,000,000, `reads` and `stores` from
-/// 1 to 4096, `kept` from 1 to 16384.
-#[derive(Clone, Copy, Debug, PartialEq, Eq)]
-pub struct Limits {
-    pub reads: u32,
-    pub stores: u32,
-    pub kept: u32,
-    pub messages: u64,
-}
 
 /// The answer to a message.
 #[derive(Clone, Copy, Debug, PartialEq, Eq)]
@@ -36,43 +28,37 @@ pub enum Fed {
 }
 
 impl Fed {
-    /// The answer that closes the checker: every one but Fine.
-    pub fn closing(&self) -> Option<Fed>
-        ensures { result ≡ closing_of self.now }
+    /// The answer to a message that ends with this verdict, or none.
+    pub(crate) fn of(verdict: &Option<Verdict>) -> Fed
+        ensures { result ≡ fed_as verdict.now }
     {
-        match self {
-            Fed::Fine => None,
-            Fed::Fault(_) | Fed::Full { .. } | Fed::Done { .. } => Some(*self),
-        }
-    }
-
-    /// The verdict that the answer is, None where it is Fine.
-    pub fn verdict(&self) -> Option<Verdict>
-        ensures { result ≡ verdict_fed self.now }
-    {
-        match *self {
-            Fed::Fine => None,
-            Fed::Fault(report) => Some(Verdict::Reject(report)),
-            Fed::Full {
+        match *verdict {
+            None => Fed::Fine,
+            Some(Verdict::Reject(report)) => Fed::Fault(report),
+            Some(
+                Verdict::Undecided {
+                    message,
+                    limit,
+                    hart,
+                    count,
+                },
+            ) => Fed::Full {
                 message,
                 limit,
                 hart,
                 count,
-            } => Some(Verdict::Undecided {
-                message,
-                limit,
-                hart,
-                count,
-            }),
-            Fed::Done {
+            },
+            Some(
+                Verdict::Accept {
+                    messages,
+                    retired,
+                    operations,
+                },
+            ) => Fed::Done {
                 messages,
                 retired,
                 operations,
-            } => Some(Verdict::Accept {
-                messages,
-                retired,
-                operations,
-            }),
+            },
         }
     }
 }

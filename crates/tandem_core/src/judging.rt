@@ -1,62 +1,94 @@
-ghost use Rattle.std.specs.Prelude.{◌≡◌, ◌≤◌, ℕ, List, length};
+//! The verdict on the stream of a source.
+
+ghost use Rattle.std.specs.Prelude.{◌≡◌, ◌≤◌, ℕ, List, length, Err};
 ghost use Rattle.tandem_io.specs.Causes.{Rose};
 ghost use Rattle.msg_frames.specs.Taking.{Took};
-ghost use Rattle.tandem_core.specs.Judgements.{HasCeilings};
-ghost use Rattle.tandem_core.specs.Judged.{JudgedIs};
+ghost use Rattle.elf_image.specs.Images.{loaded_of};
+ghost use Rattle.tandem_core.specs.Limits.{HasCeilings};
+ghost use Rattle.tandem_core.specs.Judging.{JudgedIs};
 
 use super::core_state::Core;
-use super::fed::Limits;
+use super::limits::Limits;
 use elf_image::Image;
-use msg_frames::{Next, next_message_in};
+use msg_frames::{Arrived, Body, Head, Message, next_message_into};
+use std::alloc::Global;
 use tandem_io::Source;
 use verdict_report::Verdict;
 
-/// What comes of judging a source.
+/// Why a stream has no verdict.
 #[derive(Clone, Copy, Debug, PartialEq, Eq)]
-pub enum Judged {
-    /// The verdict on the stream.
-    Verdict(Verdict),
+pub enum Unjudged {
     /// The source failed before the frame of the verdict was whole.
     Failed,
+    /// Memory was refused.
+    Memory,
 }
 
 /// Judges the stream of a source against an image, and takes just the bytes up to and with the
 /// frame at which the verdict stands.
-pub fn judge<S: Source>(image: &Image, limits: &Limits, src: &mut S) -> Judged
+pub fn judge<S: Source>(
+    alloc: Global,
+    image: &Image,
+    limits: &Limits,
+    src: &mut S,
+) -> Result<Verdict, Unjudged>
     requires { HasCeilings limits.now }
     ensures judged { (got : List ℕ) × Took (S.left src.old) (S.left src.new) (S.log src.old) (S.log src.new) got
-        × JudgedIs image.now limits.now result got (S.left src.new) }
+        × JudgedIs (loaded_of image.now) limits.now result got (S.left src.new) }
     ensures count { S.faults src.old ≤ S.faults src.new }
-    ensures cause { result ≡ Judged.Failed → Rose (S.faults src.old) (S.faults src.new) }
+    ensures cause { result ≡ Err Unjudged.Failed → Rose (S.faults src.old) (S.faults src.new) }
     ensures beside { S.aside src.new ≡ S.aside src.old }
 {
     let mut buf = [0; 514];
-    judge_in(image, limits, src, &mut buf)
+    judge_in(alloc, image, limits, src, &mut buf)
 }
 
 /// The same, by way of a buffer for one frame.
-fn judge_in<S: Source>(image: &Image, limits: &Limits, src: &mut S, buf: &mut [u8]) -> Judged
+fn judge_in<S: Source>(
+    alloc: Global,
+    image: &Image,
+    limits: &Limits,
+    src: &mut S,
+    buf: &mut [u8],
+) -> Result<Verdict, Unjudged>
     requires limits { HasCeilings limits.now }
     requires room { length buf.old ≡ 514 }
     ensures judged { (got : List ℕ) × Took (S.left src.old) (S.left src.new) (S.log src.old) (S.log src.new) got
-        × JudgedIs image.now limits.now result got (S.left src.new) }
+        × JudgedIs (loaded_of image.now) limits.now result got (S.left src.new) }
     ensures count { S.faults src.old ≤ S.faults src.new }
-    ensures cause { result ≡ Judged.Failed → Rose (S.faults src.old) (S.faults src.new) }
+    ensures cause { result ≡ Err Unjudged.Failed → Rose (S.faults src.old) (S.faults src.new) }
     ensures beside { S.aside src.new ≡ S.aside src.old }
 {
-    let mut core = Core::start(image, limits);
+    let mut core = Core::start(alloc, image, limits);
+    let mut message = no_message();
     loop {
-        match next_message_in(src, buf) {
-            Next::Msg(message) => {
-                let fed = core.feed(image, &message);
-                match fed.verdict() {
-                    Some(verdict) => return Judged::Verdict(verdict),
+        match next_message_into(src, buf, &mut message) {
+            Arrived::Message => {
+                match core.advance(&message) {
+                    Ok(()) => {}
+                    Err(_refused) => return Err(Unjudged::Memory),
+                }
+                match core.verdict() {
+                    Some(verdict) => return Ok(*verdict),
                     None => {}
                 }
             }
-            Next::Bad(fault) => return Judged::Verdict(Verdict::Reject(core.bad_frame(&fault))),
-            Next::Ended(have) => return Judged::Verdict(Verdict::Reject(core.truncated(have))),
-            Next::Failed => return Judged::Failed,
+            Arrived::Bad(fault) => return Ok(Verdict::Reject(core.bad_frame(&fault))),
+            Arrived::Ended(have) => return Ok(Verdict::Reject(core.truncated(have))),
+            Arrived::Failed => return Err(Unjudged::Failed),
         }
+    }
+}
+
+/// A message to read others into.
+fn no_message() -> Message {
+    let head = Head {
+        hart: 0,
+        time: 0,
+        tag: 0,
+    };
+    Message {
+        head,
+        body: Body::Squash,
     }
 }

@@ -4,9 +4,13 @@
 mod compare;
 mod core_state;
 mod fed;
-mod hart_state;
+mod hart_run;
 mod judging;
+mod laws;
+mod limits;
 
 pub use core_state::Core;
-pub use fed::{Fed, Limits};
-pub use judging::{Judged, judge};
+pub use fed::Fed;
+pub use judging::{Unjudged, judge};
+pub use laws::lacking_goes_on;
+pub use limits::Limits;

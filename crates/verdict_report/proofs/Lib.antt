@@ -1,2 +1,1 @@
 pub mod DigitsLaws
-pub mod PutsLaws

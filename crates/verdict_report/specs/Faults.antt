@@ -4,35 +4,35 @@ use Rattle.verdict_report.specs.declared.fault.Fault.{Fault}
 use Rattle.verdict_report.specs.declared.fault.Fault.TheVariants.{BadFrame, Truncated, BadOpen, BadHart, TimeBack, LatePoke, TagOrder, Pc, Word, Trap, NextPc, Rd, Csr, Unbuilt}
 
 -- the number by which a line tells the fault
-abbrev pub number_of : Fault → ℕ
-number_of (BadFrame _) = 1
-number_of (Truncated _) = 2
-number_of BadOpen = 3
-number_of BadHart = 4
-number_of (TimeBack _) = 5
-number_of LatePoke = 16
-number_of (TagOrder _) = 17
-number_of (Pc _ _) = 20
-number_of (Word _ _) = 21
-number_of (Trap _ _) = 22
-number_of (NextPc _ _) = 23
-number_of (Rd _ _) = 24
-number_of (Csr _ _ _) = 25
-number_of Unbuilt = 99
+abbrev pub fault_number : Fault → ℕ
+fault_number (BadFrame _) = 1
+fault_number (Truncated _) = 2
+fault_number BadOpen = 3
+fault_number BadHart = 4
+fault_number (TimeBack _) = 5
+fault_number LatePoke = 16
+fault_number (TagOrder _) = 17
+fault_number (Pc _ _) = 20
+fault_number (Word _ _) = 21
+fault_number (Trap _ _) = 22
+fault_number (NextPc _ _) = 23
+fault_number (Rd _ _) = 24
+fault_number (Csr _ _ _) = 25
+fault_number Unbuilt = 99
 
 -- the name that follows it
-abbrev pub name_of : Fault → List ℕ
-name_of (BadFrame _) = codes "BadFrame"
-name_of (Truncated _) = codes "Truncated"
-name_of BadOpen = codes "BadOpen"
-name_of BadHart = codes "BadHart"
-name_of (TimeBack _) = codes "TimeBack"
-name_of LatePoke = codes "LatePoke"
-name_of (TagOrder _) = codes "TagOrder"
-name_of (Pc _ _) = codes "Pc"
-name_of (Word _ _) = codes "Word"
-name_of (Trap _ _) = codes "Trap"
-name_of (NextPc _ _) = codes "NextPc"
-name_of (Rd _ _) = codes "Rd"
-name_of (Csr _ _ _) = codes "Csr"
-name_of Unbuilt = codes "Unbuilt"
+abbrev pub fault_name : Fault → List ℕ
+fault_name (BadFrame _) = codes "BadFrame"
+fault_name (Truncated _) = codes "Truncated"
+fault_name BadOpen = codes "BadOpen"
+fault_name BadHart = codes "BadHart"
+fault_name (TimeBack _) = codes "TimeBack"
+fault_name LatePoke = codes "LatePoke"
+fault_name (TagOrder _) = codes "TagOrder"
+fault_name (Pc _ _) = codes "Pc"
+fault_name (Word _ _) = codes "Word"
+fault_name (Trap _ _) = codes "Trap"
+fault_name (NextPc _ _) = codes "NextPc"
+fault_name (Rd _ _) = codes "Rd"
+fault_name (Csr _ _ _) = codes "Csr"
+fault_name Unbuilt = codes "Unbuilt"

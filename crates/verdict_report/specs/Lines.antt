@@ -1,13 +1,14 @@
 -- The lines that tell a verdict, as bytes. A line ends with one newline, and one space separates
 -- its parts.
-use Rattle.std.specs.Prelude.{ℕ, List, [], ◌∷◌, ◌++◌, false, codes, Option, None, Some}
+use Rattle.std.specs.Prelude.{ℕ, List, [], ◌++◌, false, codes, Option, None, Some}
 use Rattle.std.specs.Fmt.{decimal, digits}
 use Rattle.msg_frames.specs.declared.csrs.CsrValue.{CsrValue}
 use Rattle.msg_frames.specs.declared.message.Form.{Form}
 use Rattle.msg_frames.specs.declared.message.Form.TheVariants.{Length, Kind, Reserved, Field}
 use Rattle.msg_frames.specs.declared.message.Head.{Head}
 use Rattle.msg_frames.specs.declared.message.RdValue.{RdValue}
-use Rattle.verdict_report.specs.Faults.{number_of, name_of}
+use Rattle.tandem_base.specs.Texts.{newline}
+use Rattle.verdict_report.specs.Faults.{fault_number, fault_name}
 use Rattle.verdict_report.specs.declared.fault.Fault.{Fault}
 use Rattle.verdict_report.specs.declared.fault.Fault.TheVariants.{BadFrame, Truncated, BadOpen, BadHart, TimeBack, LatePoke, TagOrder, Pc, Word, Trap, NextPc, Rd, Csr, Unbuilt}
 use Rattle.verdict_report.specs.declared.fault.RdWant.{RdWant}
@@ -21,10 +22,6 @@ use Rattle.verdict_report.specs.declared.verdict.Verdict.TheVariants.{Accept, Re
 -- `0x`, and the number in base 16 with lower-case digits and no leading zeros
 abbrev pub hexadecimal : ℕ → List ℕ
 hexadecimal n = codes "0x" ++ digits 16 false n
-
--- the end of a line
-abbrev pub newline : List ℕ
-newline = 10 ∷ []
 
 -- how a frame breaks the grammar
 abbrev pub form_text : Form → List ℕ
@@ -82,7 +79,7 @@ detail_of Unbuilt = []
 
 -- the number and the name of a fault
 abbrev pub fault_text : Fault → List ℕ
-fault_text fault = codes " fault=" ++ decimal (number_of fault) ++ codes " " ++ name_of fault
+fault_text fault = codes " fault=" ++ decimal (fault_number fault) ++ codes " " ++ fault_name fault
 
 -- the hart and the tag of the message, where there is one
 abbrev pub head_text : Option Head → List ℕ

@@ -1,3 +1,5 @@
+//! What may be wrong with a message.
+
 use msg_frames::{CsrValue, Form, RdValue};
 
 /// What the reference model has for a register that an instruction may write.
@@ -76,11 +78,11 @@ pub enum Fault {
 
 impl Fault {
     ghost use Rattle.std.specs.Prelude.{◌≡◌, ◌≤◌, length};
-    ghost use Rattle.verdict_report.specs.Faults.{number_of, name_of};
+    ghost use Rattle.verdict_report.specs.Faults.{fault_number, fault_name};
 
     /// The number by which a line tells the fault.
     pub fn number(&self) -> u8
-        ensures { result ≡ number_of self.now }
+        ensures { result ≡ fault_number self.now }
     {
         match self {
             Fault::BadFrame { .. } => 1,
@@ -102,7 +104,7 @@ impl Fault {
 
     /// The name that follows the number in a line, of at most 13 letters.
     pub fn name(&self) -> &'static [u8]
-        ensures name { result.now ≡ name_of self.now }
+        ensures name { result.now ≡ fault_name self.now }
         ensures bound { length result.now ≤ 13 }
     {
         match self {

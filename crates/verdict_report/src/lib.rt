@@ -2,15 +2,16 @@
 #![tactic(auto)]
 
 mod detail;
-pub mod fault;
+mod fault;
+mod numbers;
 mod printing;
-pub mod put;
 #[cfg(test)]
 mod tests;
 mod text;
-pub mod verdict;
+mod verdict;
 
 pub use fault::{Fault, RdWant};
+pub use numbers::{put_decimal, put_hexadecimal};
 pub use printing::print;
 pub use text::line;
 pub use verdict::{Limit, Report, Verdict};

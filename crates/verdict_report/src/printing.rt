@@ -1,4 +1,5 @@
 //! The line of a verdict, written to a sink.
+
 ghost use Rattle.std.specs.Prelude.{◌≡◌, ◌+◌, ◌<◌, ◌≤◌, length, take, OnOk, IfErr};
 ghost use Rattle.std.specs.Io.KnownBytes.{Appends};
 ghost use Rattle.tandem_io.specs.Causes.{HasCause};
@@ -30,6 +31,6 @@ fn print_over<K: Sink>(verdict: &Verdict, text: &mut [u8], out: &mut K) -> Resul
     ensures cause { HasCause (K.faults out.old) (K.faults out.new) result }
     ensures count { K.faults out.old ≤ K.faults out.new }
 {
-    let end = put_line(verdict, text, 0);
+    let end = put_line(text, 0, verdict);
     write_all(out, &text[..end])
 }

@@ -1,13 +1,15 @@
 //! The line of a verdict.
+
 ghost use Rattle.std.specs.Prelude.{◌≡◌, ◌+◌, ◌≤◌, length, take};
 ghost use Rattle.verdict_report.specs.Lines.{fault_text, head_text, limit_hart_text, limit_text, line_of, report_text};
-ghost use Rattle.verdict_report.specs.Puts.{Puts};
+ghost use Rattle.tandem_base.specs.Puts.{Puts};
 
 use super::detail::put_detail;
 use super::fault::Fault;
-use super::put::{put, put_decimal};
+use super::numbers::put_decimal;
 use super::verdict::{Limit, Report, Verdict};
 use msg_frames::Head;
+use tandem_base::put;
 
 /// Puts the verdict's line, with its newline, at the front of `out` and answers its length. Every
 /// line fits.
@@ -16,12 +18,11 @@ pub fn line(verdict: &Verdict, out: &mut [u8; 256]) -> usize
     ensures text { take result out.new ≡ line_of verdict.now }
     ensures fits { result ≤ 256 }
 {
-    put_line(verdict, out, 0)
+    put_line(out, 0, verdict)
 }
 
 /// Puts the verdict's line, with its newline, at `at` and answers where it ends.
-#[tactic(auto, using(crate::proofs::PutsLaws::puts_then))]
-pub(crate) fn put_line(verdict: &Verdict, out: &mut [u8], at: usize) -> usize
+pub(crate) fn put_line(out: &mut [u8], at: usize, verdict: &Verdict) -> usize
     requires { at + 256 ≤ length out.old }
     ensures puts { Puts at out.old result out.new (line_of verdict.now) }
     ensures bound { result ≤ at + 256 }
@@ -31,59 +32,57 @@ pub(crate) fn put_line(verdict: &Verdict, out: &mut [u8], at: usize) -> usize
             messages,
             retired,
             operations,
-        } => put_accept(messages, retired, operations, out, at),
+        } => put_accept(out, at, messages, retired, operations),
         Verdict::Reject(report) => {
-            let end = put_report(&report, out, at);
-            put(b"\n", out, end)
+            let end = put_report(out, at, &report);
+            put(out, end, b"\n")
         }
         Verdict::Undecided {
             message,
             limit,
             hart,
             count,
-        } => put_undecided(message, limit, hart, count, out, at),
+        } => put_undecided(out, at, message, limit, hart, count),
     }
 }
 
 // Puts the line of an acceptance.
-#[tactic(auto, using(crate::proofs::PutsLaws::puts_then))]
-fn put_accept(messages: u64, retired: u64, operations: u64, out: &mut [u8], at: usize) -> usize
+fn put_accept(out: &mut [u8], at: usize, messages: u64, retired: u64, operations: u64) -> usize
     requires { at + 256 ≤ length out.old }
     ensures puts { Puts at out.old result out.new (line_of (Verdict.Accept messages retired operations)) }
     ensures bound { result ≤ at + 256 }
 {
-    let end = put(b"ACCEPT messages=", out, at);
-    let end = put_decimal(messages, out, end);
-    let end = put(b" retired=", out, end);
-    let end = put_decimal(retired, out, end);
-    let end = put(b" operations=", out, end);
-    let end = put_decimal(operations, out, end);
-    put(b"\n", out, end)
+    let end = put(out, at, b"ACCEPT messages=");
+    let end = put_decimal(out, end, messages);
+    let end = put(out, end, b" retired=");
+    let end = put_decimal(out, end, retired);
+    let end = put(out, end, b" operations=");
+    let end = put_decimal(out, end, operations);
+    put(out, end, b"\n")
 }
 
 // Puts the line of a limit that was passed.
-#[tactic(auto, using(crate::proofs::PutsLaws::puts_then))]
 fn put_undecided(
+    out: &mut [u8],
+    at: usize,
     message: u64,
     limit: Limit,
     hart: u8,
     count: u64,
-    out: &mut [u8],
-    at: usize,
 ) -> usize
     requires { at + 256 ≤ length out.old }
     ensures puts { Puts at out.old result out.new (line_of (Verdict.Undecided message limit hart count)) }
     ensures bound { result ≤ at + 256 }
 {
-    let end = put(b"UNDECIDED message=", out, at);
-    let end = put_decimal(message, out, end);
-    let end = put(b" limit=", out, end);
-    let end = put(limit_name(limit), out, end);
-    let end = put(b" hart=", out, end);
-    let end = put_limit_hart(limit, hart, out, end);
-    let end = put(b" count=", out, end);
-    let end = put_decimal(count, out, end);
-    put(b"\n", out, end)
+    let end = put(out, at, b"UNDECIDED message=");
+    let end = put_decimal(out, end, message);
+    let end = put(out, end, b" limit=");
+    let end = put(out, end, limit_name(limit));
+    let end = put(out, end, b" hart=");
+    let end = put_limit_hart(out, end, limit, hart);
+    let end = put(out, end, b" count=");
+    let end = put_decimal(out, end, count);
+    put(out, end, b"\n")
 }
 
 // The name of a limit.
@@ -100,60 +99,57 @@ fn limit_name(limit: Limit) -> &'static [u8]
 }
 
 // Puts the hart whose count passed its limit.
-fn put_limit_hart(limit: Limit, hart: u8, out: &mut [u8], at: usize) -> usize
+fn put_limit_hart(out: &mut [u8], at: usize, limit: Limit, hart: u8) -> usize
     requires { at + 3 ≤ length out.old }
     ensures puts { Puts at out.old result out.new (limit_hart_text limit hart) }
     ensures bound { result ≤ at + 3 }
 {
     match limit {
-        Limit::Reads | Limit::Stores | Limit::Kept => put_decimal(hart, out, at),
-        Limit::Messages => put(b"-", out, at),
+        Limit::Reads | Limit::Stores | Limit::Kept => put_decimal(out, at, hart),
+        Limit::Messages => put(out, at, b"-"),
     }
 }
 
 // Puts where the report is, and what is wrong there.
-#[tactic(auto, using(crate::proofs::PutsLaws::puts_then))]
-fn put_report(report: &Report, out: &mut [u8], at: usize) -> usize
+fn put_report(out: &mut [u8], at: usize, report: &Report) -> usize
     requires { at + 255 ≤ length out.old }
     ensures puts { Puts at out.old result out.new (report_text report.now) }
     ensures bound { result ≤ at + 255 }
 {
-    let end = put(b"REJECT message=", out, at);
-    let end = put_decimal(report.message, out, end);
-    let end = put(b" offset=", out, end);
-    let end = put_decimal(report.offset, out, end);
-    let end = put_fault(&report.fault, out, end);
-    let end = put_head(report.head, out, end);
-    put_detail(&report.fault, out, end)
+    let end = put(out, at, b"REJECT message=");
+    let end = put_decimal(out, end, report.message);
+    let end = put(out, end, b" offset=");
+    let end = put_decimal(out, end, report.offset);
+    let end = put_fault(out, end, &report.fault);
+    let end = put_head(out, end, report.head);
+    put_detail(out, end, &report.fault)
 }
 
 // Puts the number and the name of a fault.
-#[tactic(auto, using(crate::proofs::PutsLaws::puts_then))]
-fn put_fault(fault: &Fault, out: &mut [u8], at: usize) -> usize
+fn put_fault(out: &mut [u8], at: usize, fault: &Fault) -> usize
     requires { at + 24 ≤ length out.old }
     ensures puts { Puts at out.old result out.new (fault_text fault.now) }
     ensures bound { result ≤ at + 24 }
 {
-    let end = put(b" fault=", out, at);
-    let end = put_decimal(fault.number(), out, end);
-    let end = put(b" ", out, end);
-    put(fault.name(), out, end)
+    let end = put(out, at, b" fault=");
+    let end = put_decimal(out, end, fault.number());
+    let end = put(out, end, b" ");
+    put(out, end, fault.name())
 }
 
 // Puts the hart and the tag of the message, where there is one.
-#[tactic(auto, using(crate::proofs::PutsLaws::puts_then))]
-fn put_head(head: Option<Head>, out: &mut [u8], at: usize) -> usize
+fn put_head(out: &mut [u8], at: usize, head: Option<Head>) -> usize
     requires { at + 34 ≤ length out.old }
     ensures puts { Puts at out.old result out.new (head_text head) }
     ensures bound { result ≤ at + 34 }
 {
     match head {
-        None => put(b"", out, at),
+        None => put(out, at, b""),
         Some(head) => {
-            let end = put(b" hart=", out, at);
-            let end = put_decimal(head.hart, out, end);
-            let end = put(b" tag=", out, end);
-            put_decimal(head.tag, out, end)
+            let end = put(out, at, b" hart=");
+            let end = put_decimal(out, end, head.hart);
+            let end = put(out, end, b" tag=");
+            put_decimal(out, end, head.tag)
         }
     }
 }

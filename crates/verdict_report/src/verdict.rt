@@ -1,3 +1,5 @@
+//! The end of a judgement.
+
 use super::fault::Fault;
 use msg_frames::Head;
 

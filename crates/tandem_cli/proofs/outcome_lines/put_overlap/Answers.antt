@@ -1,9 +1,9 @@
-use Rattle.verdict_report.proofs.PutsLaws.{puts_then}
+use Rattle.tandem_base.proofs.PutsLaws.{puts_then}
 use Rattle.tandem_cli.proofs.outcome_lines.put_overlap.Goals as goal
 
 -- each part stands behind the one before
 pub returns-clause-puts : goal.returns-clause-puts
 returns-clause-puts c =
-    let first = puts_then c.put-end.ensures.puts c.put_decimal-end.ensures.puts in
-    let second = puts_then (puts_then first c.put-end-2.ensures.puts) c.put_decimal-end-2.ensures.puts in
-    puts_then second c.put.ensures.puts
+    let first = puts_then c.put-end.ensures c.put_decimal-end.ensures.puts in
+    let second = puts_then (puts_then first c.put-end-2.ensures) c.put_decimal-end-2.ensures.puts in
+    puts_then second c.put.ensures

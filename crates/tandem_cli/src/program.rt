@@ -1,0 +1,72 @@
+//! The words that the program was started with, handed to the top call.
+
+ghost use Rattle.std.specs.Prelude.{◌≡◌, ◌≤◌, IfOk, IfErr, OnErr, drop, map};
+ghost use Rattle.std.specs.IoError.{error_kind};
+ghost use Rattle.std.specs.String.{string_bytes};
+ghost use Rattle.std.specs.Vec.Iter.{into_iter_items};
+ghost use Rattle.tandem_cli.specs.Answers.{AnswersTo, AnswersUsage};
+ghost use Rattle.tandem_cli.specs.Words.{asked};
+
+use super::run::run_check;
+use std::alloc::{AllocError, Global};
+use std::env::Args;
+use std::io::{self, ErrorKind};
+use tandem_io::{Inputs, Sink};
+
+/// Does all that the program does with the words that it was started with, its own name first, and
+/// answers the status that it ends with. Words that are no text are of another form; where memory
+/// for them is refused the status is 7, and nothing is written.
+pub fn run_program<I: Inputs, K: Sink>(
+    alloc: Global,
+    started: io::Result<Args>,
+    ins: &mut I,
+    out: &mut K,
+) -> u8
+    ensures words { IfOk started (λ args. AnswersTo (asked (map string_bytes (drop 1 (into_iter_items args))))
+        (I.names ins.old) (I.slots ins.old) (I.slots ins.new) result
+        (K.written out.old) (K.written out.new) (K.faults out.old) (K.faults out.new)) }
+    ensures no_text { OnErr started (AnswersUsage result
+        (K.written out.old) (K.written out.new) (K.faults out.old) (K.faults out.new)) }
+    ensures refused { IfErr started (λ error. error_kind error ≡ ErrorKind.OutOfMemory → result ≡ 7) }
+    ensures untouched { OnErr started (ins.new ≡ ins.old) }
+    ensures count { K.faults out.old ≤ K.faults out.new }
+{
+    match started {
+        Ok(args) => run_words(alloc, args, ins, out),
+        Err(error) if error.kind() == ErrorKind::OutOfMemory => 7,
+        Err(_no_text) => run_check(alloc, &[], ins, out),
+    }
+}
+
+// The same, for words that are text.
+fn run_words<I: Inputs, K: Sink>(alloc: Global, args: Args, ins: &mut I, out: &mut K) -> u8
+    ensures words { AnswersTo (asked (map string_bytes (drop 1 (into_iter_items args))))
+        (I.names ins.old) (I.slots ins.old) (I.slots ins.new) result
+        (K.written out.old) (K.written out.new) (K.faults out.old) (K.faults out.new) }
+    ensures count { K.faults out.old ≤ K.faults out.new }
+{
+    match words_behind(alloc, args) {
+        Ok(words) => run_check(alloc, &words, ins, out),
+        Err(_refused) => 7,
+    }
+}
+
+// The words behind the program's name.
+fn words_behind(alloc: Global, args: Args) -> Result<Vec<String>, AllocError>
+    ensures { IfOk result (λ words. words.items ≡ drop 1 (into_iter_items args)) }
+{
+    let mut args = args;
+    let _name = args.next();
+    gathered(alloc, args)
+}
+
+// All the words.
+fn gathered(alloc: Global, args: Args) -> Result<Vec<String>, AllocError>
+    ensures { IfOk result (λ words. words.items ≡ into_iter_items args) }
+{
+    let mut words = Vec::new(alloc);
+    for word in args {
+        words.push(word)?;
+    }
+    Ok(words)
+}

@@ -1,0 +1,73 @@
+-- The frames of messages, and what they decide.
+use Rattle.std.proofs.Common.{◌≡◌, ℕ, ◌+◌, Bool, true, false, List, [], ◌∷◌, ◌++◌, length, refl, sym, ap, ◌∙◌, Option, None, Some, Ok, append_assoc, length-append}
+use Rattle.std.specs.Prelude.{All, if◌then◌else◌}
+use Rattle.std.proofs.lemmas.List.Elements.{All-head, All-tail}
+use Rattle.msg_frames.specs.declared.message.Message.{Message}
+use Rattle.msg_frames.specs.Frames.{frame, Spells}
+use Rattle.msg_frames.specs.Reading.{reading}
+use Rattle.msg_frames.specs.Cut.{cut, is_end}
+use Rattle.msg_frames.specs.Taking.{IsWhole, IsShort}
+use Rattle.msg_frames.proofs.CutLaws.{cut_message, whole_frame}
+use Rattle.msg_frames.proofs.Frames.{reading_frame}
+use Rattle.elf_image.specs.Images.{Loaded}
+use Rattle.verdict_report.specs.declared.verdict.Verdict.{Verdict}
+use Rattle.tandem_core.specs.declared.limits.Limits.{Limits}
+use Rattle.tandem_base.specs.FirstFault.{◌or_else◌}
+use Rattle.tandem_core.specs.Runs.{frame_size, frames_of, offset_of}
+use Rattle.tandem_core.specs.Judgements.{judge_from, judgement, decided, accept_of, verdict_at, IsQuiet}
+use Rattle.tandem_core.specs.Judging.{IsSpelled, Lacks}
+use Rattle.tandem_core.proofs.JudgeLaws.{judged_after, after_message}
+
+-- a message that ends with no verdict decides nothing
+none_decided : (first : Option Verdict) (ends : Bool) (v : Verdict) → ◌or_else◌ first (if ends then Some v else None) ≡ None →
+    (first ≡ None) × (ends ≡ false)
+none_decided None true v e = absurd (cc)
+none_decided None false v e = (refl, refl)
+none_decided (Some w) ends v e = absurd (cc)
+
+-- and is no End
+pub quiet_parts : (image : Loaded) (limits : Limits) (before : List Message) (m : Message) →
+    verdict_at image limits before m ≡ None → (decided image limits before m ≡ None) × (is_end m.body ≡ false)
+quiet_parts image limits before m quiet =
+    none_decided (decided image limits before m) (is_end m.body) (accept_of (m ∷ before)) quiet
+
+-- the frames are as long as the messages say
+pub frames_size : (before : List Message) → length (frames_of before) ≡ offset_of before
+unfolding frame_size
+frames_size [] = refl
+frames_size (m ∷ before) =
+    length-append (frames_of before) (frame m) ∙ ap (λ (n : ℕ). n + length (frame m)) (frames_size before)
+
+-- a frame of a message, behind those of messages that decide nothing
+pub after_frame : (image : Loaded) (limits : Limits) (before : List Message) (m : Message) (more : List ℕ) →
+    Spells (frame m) m → verdict_at image limits before m ≡ None →
+    judged_after image limits (frames_of before) before (frame m ++ more)
+    ≡ judged_after image limits (frames_of (m ∷ before)) (m ∷ before) more
+after_frame image limits before m more spells quiet =
+    let parts = quiet_parts image limits before m quiet in
+    after_message image limits (frames_of before) (frame m) more before m
+    (cut_message (frame m) more m (whole_frame m spells.fits spells.holds) (reading_frame m spells.fits spells.holds) parts.1)
+    parts.0
+
+-- the judgement of frames that decide nothing and of what follows them, from there on
+pub frames_judged : (image : Loaded) (limits : Limits) (before : List Message) (more : List ℕ) →
+    All IsSpelled before → IsQuiet image limits before →
+    judgement image limits (frames_of before ++ more) ≡ judged_after image limits (frames_of before) before more
+frames_judged image limits [] more spelled quiet = refl
+frames_judged image limits (m ∷ before) more spelled quiet =
+    ap (λ (bytes : List ℕ). judgement image limits bytes) (append_assoc (frames_of before) (frame m) more)
+    ∙ frames_judged image limits before (frame m ++ more) (All-tail IsSpelled m before spelled) quiet.1
+    ∙ after_frame image limits before m more (All-head IsSpelled m before spelled) quiet.0
+
+-- bytes that decide nothing yet, and what follows them
+pub lacking_judged : (image : Loaded) (limits : Limits) (got more : List ℕ) (lacks : Lacks image limits got) →
+    judgement image limits (got ++ more)
+    ≡ judge_from image limits (got ++ more) lacks.before (cut (lacks.part ++ more)).messages (cut (lacks.part ++ more)).ending
+lacking_judged image limits got more lacks =
+    let whole = frames_of lacks.before in
+    let same : got ++ more ≡ whole ++ (lacks.part ++ more) =
+    ap (λ (bytes : List ℕ). bytes ++ more) lacks.is ∙ append_assoc whole lacks.part more in
+    ap (λ (bytes : List ℕ). judgement image limits bytes) same
+    ∙ frames_judged image limits lacks.before (lacks.part ++ more) lacks.spelled lacks.quiet
+    ∙ ap (λ (bytes : List ℕ). judge_from image limits bytes lacks.before (cut (lacks.part ++ more)).messages (cut (lacks.part ++ more)).ending)
+    (sym same)

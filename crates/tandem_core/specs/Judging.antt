@@ -1,0 +1,38 @@
+-- What is judged of a source.
+use Rattle.std.specs.Prelude.{ℕ, ◌≡◌, ◌⊎◌, List, ◌++◌, length, All, Option, Result, Ok, Err}
+use Rattle.std.specs.Io.KnownBytes.{IsAtEnd}
+use Rattle.elf_image.specs.Images.{Loaded}
+use Rattle.msg_frames.specs.declared.message.Message.{Message}
+use Rattle.msg_frames.specs.Frames.{frame, Spells}
+use Rattle.msg_frames.specs.Taking.{IsShort}
+use Rattle.verdict_report.specs.declared.verdict.Verdict.{Verdict}
+use Rattle.tandem_core.specs.declared.limits.Limits.{Limits}
+use Rattle.tandem_core.specs.declared.judging.Unjudged.{Unjudged}
+use Rattle.tandem_core.specs.declared.judging.Unjudged.TheVariants as unjudged
+use Rattle.tandem_core.specs.Runs.{frames_of}
+use Rattle.tandem_core.specs.Judgements.{judgement, IsQuiet}
+
+-- These bytes give this verdict, and it stands on all of them and on no more: whatever follows, or because nothing does.
+pub record Decides (image : Loaded) (limits : Limits) (got : List ℕ) (left : Option (List ℕ)) (v : Verdict) : Type 0 where
+  pub verdict : ((more : List ℕ) → judgement image limits (got ++ more) ≡ record { verdict = v; taken = length got })
+      ⊎ (IsAtEnd left × (judgement image limits got ≡ record { verdict = v; taken = length got }))
+
+-- the parts of a message fit their fields, so that its frame spells it
+abbrev pub IsSpelled : Message → Type 0
+IsSpelled m = Spells (frame m) m
+
+-- These bytes decide nothing yet: they are the frames of these messages, none of which ends with a verdict, and a part
+-- of one more frame.
+pub record Lacks (image : Loaded) (limits : Limits) (got : List ℕ) : Type 0 where
+  pub before : List Message
+  pub part : List ℕ
+  pub is : got ≡ frames_of before ++ part
+  pub spelled : All IsSpelled before
+  pub quiet : IsQuiet image limits before
+  pub short : IsShort part
+
+-- what an answer says of the bytes that were taken and of what is left: nothing where memory was refused
+abbrev pub JudgedIs : Loaded → Limits → Result Verdict Unjudged → List ℕ → Option (List ℕ) → Type 0
+JudgedIs image limits (Ok v) got left = Decides image limits got left v
+JudgedIs image limits (Err unjudged.Failed) got left = Lacks image limits got
+JudgedIs image limits (Err unjudged.Memory) got left = Unit {0}

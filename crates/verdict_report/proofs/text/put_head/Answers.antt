@@ -1,0 +1,7 @@
+use Rattle.std.proofs.Common.{refl}
+use Rattle.tandem_base.proofs.PutsLaws.{puts_then, puts_as}
+use Rattle.verdict_report.proofs.text.put_head.Goals as goal
+
+pub returns-in-Some-clause-puts : goal.returns-in-Some-clause-puts
+returns-in-Some-clause-puts c =
+    puts_as (puts_then (puts_then (puts_then c.put-end.ensures c.put_decimal-end.ensures.puts) c.put-end-in-Some.ensures) c.put_decimal.ensures.puts) (rw c.in-Some.is refl)
