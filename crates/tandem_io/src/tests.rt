@@ -216,6 +216,7 @@ fn opens_the_name_that_it_is_given(rt: HostRuntime) -> Result<(), Fail> {
             assert_eq!(rt; ins.attach(slot, name), Ok(false), "{name}");
         }
         assert_eq!(rt; ins.attach(slot, "name/"), Err(Failed), "no directory");
+        assert_eq!(rt; ins.attach(slot, "a\0b"), Err(Failed), "no name");
     }
     Ok(())
 }
@@ -243,6 +244,27 @@ fn lends_what_it_holds(rt: HostRuntime) -> Result<(), Fail> {
     let (lent, rest) = lends(alloc, &mut holding(alloc, 4)?)?;
     assert_eq!(rt; lent.len(), 0);
     assert_eq!(rt; rest.as_slice(), b"123456789".as_slice());
+    Ok(())
+}
+
+#[test]
+fn holds_as_much_as_there_is_memory_for(rt: HostRuntime) -> Result<(), Fail> {
+    let alloc = rt.alloc();
+    let large = vec![in alloc; 7u8; 1_000_000]?;
+    let mut ins = MemInputs::new(alloc, 1_000_000);
+    let mut sure = SureInputs::new(alloc, 1_000_000);
+    let mut out = MemSink::new(alloc, 1_000_000, 4096)?;
+    ins.add("large", &large)?;
+    sure.add("large", &large)?;
+    for call in 2_000..4_000u64 {
+        ins.fail_at(Slot::Stream, call)?;
+        out.fail_at(call)?;
+    }
+    assert_eq!(rt; ins.attach(Slot::Stream, "large"), Ok(true));
+    assert_eq!(rt; sure.attach(Slot::Image, "large"), Ok(true));
+    assert_eq!(rt; read_on(alloc, &mut ins, Slot::Stream)?.len(), 8 * 100);
+    assert_eq!(rt; write_all(&mut out, &large), Ok(()));
+    assert_eq!(rt; out.bytes().len(), 1_000_000);
     Ok(())
 }
 
