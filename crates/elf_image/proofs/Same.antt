@@ -1,13 +1,14 @@
 -- Images that no look-up tells apart.
-use Rattle.std.proofs.Common.{◌≡◌, ◌∙◌, ℕ, ◌+◌, List, length, map, sum_by, ap, Option, None, Result, Ok}
+use Rattle.std.proofs.Common.{◌≡◌, ◌∙◌, ℕ, ◌+◌, List, length, map, sum_by, refl, ap, Option, None, Some, Ok, Err}
 use Rattle.std.specs.Option.{option_or}
 use Rattle.std.proofs.Math.Path.{fun_ext}
 use Rattle.elf_image.specs.declared.program.ProgramHeader.{ProgramHeader}
 use Rattle.elf_image.specs.declared.ram.Ram.{Ram}
 use Rattle.elf_image.specs.declared.range.Range.{Range}
 use Rattle.elf_image.specs.declared.fault.ImageFault.{ImageFault}
-use Rattle.elf_image.specs.Elf.{entry_of, loaded, loads_image, overlap_fault, segment_fault}
-use Rattle.elf_image.specs.Faults.{limit_fault, refuse}
+use Rattle.elf_image.specs.Elf.{elf_of, header_fault, loads, loads_fault, loads_image, overlap_fault, segment_fault}
+use Rattle.elf_image.specs.Faults.{file_fault, limit_fault}
+use Rattle.tandem_base.specs.FirstFault.{passed, unless}
 use Rattle.elf_image.specs.Images.{Loaded, loaded_of, Segment, Span, byte_of, segment_byte, ram_byte}
 use Rattle.elf_image.specs.Rams.{span_of}
 use Rattle.elf_image.specs.Tables.{image_in, image_over, segment_in, span_in}
@@ -40,15 +41,30 @@ unfolding byte_of
 same_segments entry table segments rams same =
     same_loaded entry _ _ (λ x. ap (λ o. option_or o (ram_byte rams x)) (same x))
 
-refuse_none : (found : Option ImageFault) (rest : Result Loaded ImageFault) → found ≡ None → refuse found rest ≡ rest
-refuse_none found rest none = ap (λ o. refuse o rest) none
+-- nothing is wrong where a check passed
+pub none_wrong : (found : Option ImageFault) (u : Unit {0}) → Ok u ≡ passed found → found ≡ None
+none_wrong None u e = refl
+none_wrong (Some fault) u e = absurd (cc)
 
 -- segments without a fault are an image
-pub loads_read : (bytes : List ℕ) (loads : List ProgramHeader) (rams : List Ram)
-    → segment_fault (length bytes) loads ≡ None
+pub loads_read : (file_len : ℕ) (loads : List ProgramHeader) (rams : List Ram) (image : Loaded)
+    → segment_fault file_len loads ≡ None
     → limit_fault (length loads + length rams) (sum_by (λ h. h.size) loads + sum_by (λ r. r.size) rams) ≡ None
-    → overlap_fault loads ≡ None
-    → loads_image bytes loads rams
-    ≡ Ok (loaded_of (record { entry = entry_of bytes; segments = map (loaded bytes) loads; rams = map span_of rams }))
-loads_read bytes loads rams placed limits once =
-    refuse_none _ _ placed ∙ refuse_none _ _ limits ∙ refuse_none _ _ once
+    → overlap_fault loads ≡ None → unless (loads_fault file_len loads rams) image ≡ Ok image
+loads_read file_len loads rams image placed limits once = rw (placed, limits, once) refl
+
+-- what a check found wrong
+pub some_wrong : (found : Option ImageFault) (fault : ImageFault) → Err fault ≡ passed found → found ≡ Some fault
+some_wrong None fault e = absurd (cc)
+some_wrong (Some other) fault e = cc
+
+-- a file whose header is right means what its segments mean
+pub header_read : (bytes : List ℕ) (rams : List Ram) → file_fault bytes ≡ None → header_fault bytes ≡ None
+    → elf_of bytes rams
+    ≡ unless (loads_fault (length bytes) (loads bytes) rams) (loads_image bytes (loads bytes) rams)
+header_read bytes rams short right = rw (short, right) refl
+
+-- and one whose header isn't means its fault
+pub header_wrong : (bytes : List ℕ) (rams : List Ram) (fault : ImageFault) → file_fault bytes ≡ None
+    → header_fault bytes ≡ Some fault → elf_of bytes rams ≡ Err fault
+header_wrong bytes rams fault short wrong = rw (short, wrong) refl

@@ -1,8 +1,8 @@
 -- ELF64 files: the image that one describes, or its first fault.
 use Rattle.std.specs.Prelude.{ℕ, ◌+◌, ◌*◌, ◌%◌, ◌^◌, ◌==◌, Bool, not, ◌&&◌, ◌||◌, nat_eq, nat_lt, if◌then◌else◌, List}
-use Rattle.std.specs.Prelude.{[], ◌∷◌, map, length, sum_by, take, drop, slice_index, Option, None, Some, Result, Ok}
+use Rattle.std.specs.Prelude.{[], ◌∷◌, map, length, sum_by, take, drop, slice_index, Option, None, Some, Result}
 use Rattle.std.specs.List.{filter, find, range_with_len, starts_with}
-use Rattle.std.specs.Option.{option_map, option_or}
+use Rattle.std.specs.Option.{option_map}
 use Rattle.std.specs.Int.{w16, w32, w64, from_le_bytes}
 use Rattle.elf_image.specs.declared.fault.ImageFault.{ImageFault}
 use Rattle.elf_image.specs.declared.fault.ImageFault.TheVariants as fault
@@ -10,25 +10,30 @@ use Rattle.elf_image.specs.declared.program.ProgramHeader.{ProgramHeader}
 use Rattle.elf_image.specs.declared.ram.Ram.{Ram}
 use Rattle.elf_image.specs.Images.{Segment, Loaded, loaded_of}
 use Rattle.elf_image.specs.Rams.{span_of}
-use Rattle.elf_image.specs.Faults.{refuse, file_fault, limit_fault}
+use Rattle.elf_image.specs.Faults.{file_fault, limit_fault}
+use Rattle.tandem_base.specs.FirstFault.{◌or_else◌, unless}
 
--- the little-endian numbers of 2, 4 and 8 bytes at an offset
+-- the little-endian number of 2 bytes at an offset
 abbrev pub u16_at : ℕ → List ℕ → ℕ
 u16_at offset bytes = from_le_bytes w16 (take 2 (drop offset bytes))
 
+-- that of 4 bytes
 abbrev pub u32_at : ℕ → List ℕ → ℕ
 u32_at offset bytes = from_le_bytes w32 (take 4 (drop offset bytes))
 
+-- that of 8 bytes
 abbrev pub u64_at : ℕ → List ℕ → ℕ
 u64_at offset bytes = from_le_bytes w64 (take 8 (drop offset bytes))
 
--- the file header: e_entry, e_phoff, e_phentsize and e_phnum
+-- where a run begins: e_entry of the file header
 abbrev pub entry_of : List ℕ → ℕ
 entry_of bytes = u64_at 24 bytes
 
+-- where the program header table begins: e_phoff
 abbrev pub table_offset : List ℕ → ℕ
 table_offset bytes = u64_at 32 bytes
 
+-- how many entries it has: e_phnum
 abbrev pub header_count : List ℕ → ℕ
 header_count bytes = u16_at 56 bytes
 
@@ -50,7 +55,7 @@ has_table bytes =
     (header_count bytes == 0) || not (nat_lt (length bytes) (table_offset bytes + 56 * header_count bytes))
 
 -- the first fault of the file header: ET_EXEC is 2, and RISC-V is 243
-abbrev pub header_fault : List ℕ → Option ImageFault
+unfoldable pub header_fault : List ℕ → Option ImageFault
 header_fault bytes =
     if nat_lt (length bytes) 64 || not (has_magic bytes) then Some fault.NotElf
     else if not (has_class bytes) then Some fault.Class
@@ -102,23 +107,28 @@ meets a b = nat_lt a.address (b.address + b.size) && nat_lt b.address (a.address
 abbrev pub overlap_fault : List ProgramHeader → Option ImageFault
 overlap_fault [] = None
 overlap_fault (a ∷ rest) =
-    option_or (option_map (λ b. fault.Overlap a.index b.index) (find (meets a) rest)) (overlap_fault rest)
+    option_map (λ b. fault.Overlap a.index b.index) (find (meets a) rest) or_else overlap_fault rest
 
 -- the segment that a program header loads
 abbrev pub loaded : List ℕ → ProgramHeader → Segment
 loaded bytes header =
     record { base = header.address; bytes = take header.file_size (drop header.offset bytes); size = header.size }
 
--- the segments to be loaded from these bytes, and RAM: the image, or the first fault
-abbrev pub loads_image : List ℕ → List ProgramHeader → List Ram → Result Loaded ImageFault
+-- the first fault of the segments to be loaded from a file of that length, and RAM
+abbrev pub loads_fault : ℕ → List ProgramHeader → List Ram → Option ImageFault
+loads_fault file_len headers rams =
+    segment_fault file_len headers
+    or_else limit_fault (length headers + length rams) (sum_by (λ h. h.size) headers + sum_by (λ r. r.size) rams)
+    or_else overlap_fault headers
+
+-- the image of the segments to be loaded from these bytes, and RAM
+abbrev pub loads_image : List ℕ → List ProgramHeader → List Ram → Loaded
 loads_image bytes headers rams =
-    refuse (segment_fault (length bytes) headers)
-    (refuse (limit_fault (length headers + length rams) (sum_by (λ h. h.size) headers + sum_by (λ r. r.size) rams))
-    (refuse (overlap_fault headers)
-    (Ok
-    (loaded_of (record { entry = entry_of bytes; segments = map (loaded bytes) headers; rams = map span_of rams })))))
+    loaded_of (record { entry = entry_of bytes; segments = map (loaded bytes) headers; rams = map span_of rams })
 
 -- an ELF64 file and RAM: the image, or the first fault
 abbrev pub elf_of : List ℕ → List Ram → Result Loaded ImageFault
 elf_of bytes rams =
-    refuse (file_fault bytes) (refuse (header_fault bytes) (loads_image bytes (loads bytes) rams))
+    unless
+    (file_fault bytes or_else header_fault bytes or_else loads_fault (length bytes) (loads bytes) rams)
+    (loads_image bytes (loads bytes) rams)

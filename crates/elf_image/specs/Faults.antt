@@ -7,11 +7,6 @@ use Rattle.elf_image.specs.declared.fault.TooLarge.TheVariants as limit
 use Rattle.elf_image.specs.declared.limits.TheConstants.{MOST_FILE_BYTES}
 use Rattle.elf_image.specs.Images.{ImageOf, Loaded, loaded_of}
 
--- the first fault of a list of checks: this one's, else that of the rest
-abbrev pub refuse : Option ImageFault → Result Loaded ImageFault → Result Loaded ImageFault
-refuse (Some found) rest = Err found
-refuse None rest = rest
-
 -- a file above 2^28 bytes: it is read up to one byte past that limit
 abbrev pub file_fault : List ℕ → Option ImageFault
 file_fault bytes =

@@ -1,7 +1,7 @@
 //! Images from flat files.
 
 ghost use Rattle.std.specs.Prelude.{◌≡◌, length, map, IfOk};
-ghost use Rattle.std.specs.Result.{result_err};
+ghost use Rattle.tandem_base.specs.FirstFault.{passed};
 ghost use Rattle.std.specs.List.{All, AllPairs};
 ghost use Rattle.elf_image.specs.Flat.{flat_end_fault, flat_segments};
 ghost use Rattle.elf_image.specs.Tables.{EndsBefore, IsInFile, segment_in};
@@ -39,7 +39,7 @@ impl Image {
 
 /// The fault of a file that passes 2^64.
 fn check_end(bytes: &[u8], base: u64) -> Result<(), ImageFault>
-    ensures { result_err result ≡ flat_end_fault bytes.now base }
+    ensures { result ≡ passed (flat_end_fault bytes.now base) }
 {
     if u128::from(base) + bytes.len() as u128 > 1 << 64 {
         return Err(ImageFault::Segment(0));

@@ -1,7 +1,7 @@
 //! The file header of an ELF64 file.
 
 ghost use Rattle.std.specs.Prelude.{◌≡◌, ◌%◌, ◌≤◌, true, false, OnOk, IfOk, length, map};
-ghost use Rattle.std.specs.Result.{result_err};
+ghost use Rattle.tandem_base.specs.FirstFault.{passed};
 ghost use Rattle.elf_image.specs.declared.limits.TheConstants.{MOST_FILE_BYTES};
 ghost use Rattle.elf_image.specs.Elf.{entry_of, table_offset, header_count, has_class, has_entry_size, has_table};
 ghost use Rattle.elf_image.specs.Elf.{header_fault, loads};
@@ -19,9 +19,10 @@ const RISC_V: u16 = 243;
 pub const ENTRY_SIZE: u64 = 56;
 
 /// The fault of the file header.
+#[tactic(auto, unfolding(crate::specs::Elf::header_fault))]
 pub fn check_header(bytes: &[u8]) -> Result<(), ImageFault>
     requires { length bytes.now ≤ MOST_FILE_BYTES }
-    ensures fault { result_err result ≡ header_fault bytes.now }
+    ensures fault { result ≡ passed (header_fault bytes.now) }
     ensures whole { OnOk result (64 ≤ length bytes.now) }
     ensures table { OnOk result (has_table bytes.now ≡ true) }
     ensures aligned { OnOk result (entry_of bytes.now % 4 ≡ 0) }

@@ -1,7 +1,7 @@
 //! The limits of an image.
 
 ghost use Rattle.std.specs.Prelude.{◌≡◌, ◌^◌, ◌<◌, ◌≤◌, OnOk, length, sum_by};
-ghost use Rattle.std.specs.Result.{result_err};
+ghost use Rattle.tandem_base.specs.FirstFault.{passed};
 ghost use Rattle.elf_image.specs.declared.limits.TheConstants.{MOST_FILE_BYTES};
 ghost use Rattle.elf_image.specs.Faults.{file_fault, limit_fault};
 
@@ -19,7 +19,7 @@ const MOST_BYTES: u128 = 1 << 40;
 
 /// The fault of a file that is too long.
 pub fn check_file(bytes: &[u8]) -> Result<(), ImageFault>
-    ensures fault { result_err result ≡ file_fault bytes.now }
+    ensures fault { result ≡ passed (file_fault bytes.now) }
     ensures short { OnOk result (length bytes.now ≤ MOST_FILE_BYTES) }
 {
     if bytes.len() > MOST_FILE_BYTES {
@@ -31,7 +31,7 @@ pub fn check_file(bytes: &[u8]) -> Result<(), ImageFault>
 
 /// The fault of too many ranges, or of too many bytes in them.
 pub fn check_limits(count: u64, size: u128) -> Result<(), ImageFault>
-    ensures { result_err result ≡ limit_fault count size }
+    ensures { result ≡ passed (limit_fault count size) }
 {
     if count > MOST_RANGES {
         return Err(ImageFault::TooLarge(TooLarge::Ranges(count)));

@@ -3,7 +3,7 @@
 ghost use Rattle.std.specs.Prelude.{◌≡◌, ◌+◌, ◌*◌, ◌^◌, ◌<◌, ◌≤◌, true, IfOk, length, sum_by};
 ghost use Rattle.std.specs.List.{All, find};
 ghost use Rattle.std.specs.Option.{option_map};
-ghost use Rattle.std.specs.Result.{result_err};
+ghost use Rattle.tandem_base.specs.FirstFault.{passed};
 ghost use Rattle.elf_image.specs.Elf.{header_count, table_offset, has_table, program_header, meets, loads};
 ghost use Rattle.elf_image.specs.Elf.{overlap_fault, segment_fault};
 
@@ -107,7 +107,7 @@ pub fn load_size(loads: &[ProgramHeader]) -> u128
 
 /// The fault of the first segment that is misplaced.
 pub fn check_segments(loads: &[ProgramHeader], file_len: u64) -> Result<(), ImageFault>
-    ensures { result_err result ≡ segment_fault file_len loads.now }
+    ensures { result ≡ passed (segment_fault file_len loads.now) }
 {
     for load in loads {
         if load.is_misplaced(file_len) {
@@ -119,7 +119,7 @@ pub fn check_segments(loads: &[ProgramHeader], file_len: u64) -> Result<(), Imag
 
 /// The fault of the first segment that shares an address with a later one.
 pub fn check_overlap(loads: &[ProgramHeader]) -> Result<(), ImageFault>
-    ensures { result_err result ≡ overlap_fault loads.now }
+    ensures { result ≡ passed (overlap_fault loads.now) }
 {
     for (place, load) in loads.iter().enumerate() {
         if let Some(other) = meeting(load, &loads[place + 1..]) {

@@ -27,33 +27,43 @@ use Rattle.rv_decode.specs.declared.instruction.Insn.TheVariants.{Amo}
 
 -- ---- the fields (sections 2.2 and 2.3)
 
+-- the opcode
 abbrev pub opcode_of : ℕ → ℕ
 opcode_of word = part word 6 0
 
+-- the number of rd
 abbrev pub rd_of : ℕ → ℕ
 rd_of word = part word 11 7
 
+-- funct3
 abbrev pub funct3_of : ℕ → ℕ
 funct3_of word = part word 14 12
 
+-- the number of rs1
 abbrev pub rs1_of : ℕ → ℕ
 rs1_of word = part word 19 15
 
+-- the number of rs2
 abbrev pub rs2_of : ℕ → ℕ
 rs2_of word = part word 24 20
 
+-- funct7
 abbrev pub funct7_of : ℕ → ℕ
 funct7_of word = part word 31 25
 
+-- the upper six bits of funct7, of a shift on 64 bits
 abbrev pub funct6_of : ℕ → ℕ
 funct6_of word = part word 31 26
 
+-- the upper five bits of funct7, of an atomic instruction
 abbrev pub funct5_of : ℕ → ℕ
 funct5_of word = part word 31 27
 
+-- acquire
 abbrev pub aq_of : ℕ → Bool
 aq_of word = part word 26 26 == 1
 
+-- release
 abbrev pub rl_of : ℕ → Bool
 rl_of word = part word 25 25 == 1
 
@@ -61,20 +71,25 @@ rl_of word = part word 25 25 == 1
 abbrev pub signed : ℕ → ℕ → ℤ
 signed bits n = if nat_lt n (2 ^ (bits - 1)) then pos n else negsuc (2 ^ bits - 1 - n)
 
+-- the immediate of the I-type
 abbrev pub i_imm : ℕ → ℤ
 i_imm word = signed 12 (part word 31 20)
 
+-- that of the S-type
 abbrev pub s_imm : ℕ → ℤ
 s_imm word = signed 12 (part word 31 25 * 2 ^ 5 + part word 11 7)
 
+-- that of the B-type
 abbrev pub b_imm : ℕ → ℤ
 b_imm word =
     signed 13
     (part word 31 31 * 2 ^ 12 + part word 7 7 * 2 ^ 11 + part word 30 25 * 2 ^ 5 + part word 11 8 * 2)
 
+-- that of the U-type
 abbrev pub u_imm : ℕ → ℤ
 u_imm word = signed 32 (part word 31 12 * 2 ^ 12)
 
+-- that of the J-type
 abbrev pub j_imm : ℕ → ℤ
 j_imm word =
     signed 21
@@ -149,16 +164,20 @@ reg_at line = find (λ op. same_row (reg_row op) line) reg_ops
 
 -- ---- the words of each opcode
 
+-- JALR
 abbrev pub jalr_of : ℕ → Option Insn
 jalr_of word = if funct3_of word == 0b000 then Some (Jalr (rd_of word) (rs1_of word) (i_imm word)) else None
 
+-- the branches
 abbrev pub branch_of : ℕ → Option Insn
 branch_of word =
     option_map (λ op. Branch op (rs1_of word) (rs2_of word) (b_imm word)) (branch_at (funct3_of word))
 
+-- the loads
 abbrev pub load_of : ℕ → Option Insn
 load_of word = option_map (λ op. Load op (rd_of word) (rs1_of word) (i_imm word)) (load_at (funct3_of word))
 
+-- the stores
 abbrev pub store_of : ℕ → Option Insn
 store_of word = option_map (λ op. Store op (rs1_of word) (rs2_of word) (s_imm word)) (store_at (funct3_of word))
 
@@ -201,16 +220,19 @@ alu_reg_of opcode word =
     option_map (λ op. Alu op (rd_of word) (rs1_of word) (rs2_of word))
     (reg_at (row (funct7_of word) (funct3_of word) opcode))
 
+-- FENCE
 abbrev pub fence_of : ℕ → Option Insn
 fence_of word =
     if funct3_of word == 0b000
     then Some (Fence (part word 31 28) (part word 27 24) (part word 23 20) (rd_of word) (rs1_of word))
     else None
 
+-- the CSR instructions
 abbrev pub csr_of : ℕ → Option Insn
 csr_of word =
     option_map (λ op. Csr op (rd_of word) (rs1_of word) (part word 31 20)) (csr_at (funct3_of word))
 
+-- the calls of the environment, MRET, WFI and the CSR instructions
 abbrev pub system_of : ℕ → Option Insn
 system_of word =
     if word == 0x00000073 then Some Ecall
@@ -219,6 +241,7 @@ system_of word =
     else if word == 0x10500073 then Some Wfi
     else csr_of word
 
+-- LR, SC and the atomic operations, on words or on doublewords
 abbrev pub atomic_with : ℕ → Bool → Option Insn
 atomic_with word wide =
     if (funct5_of word == 0b00010) && (rs2_of word == 0)
@@ -229,11 +252,11 @@ atomic_with word wide =
     option_map (λ op. Amo op wide (aq_of word) (rl_of word) (rd_of word) (rs1_of word) (rs2_of word))
     (amo_at (funct5_of word))
 
+-- the atomic instructions
 abbrev pub atomic_of : ℕ → Option Insn
 atomic_of word = option_and_then (atomic_with word) (width_at (funct3_of word))
 
--- ---- all words
-
+-- the instruction of a word, by its opcode
 unfoldable pub decoding : ℕ → Option Insn
 decoding word =
     if opcode_of word == 0b0110111 then Some (Lui (rd_of word) (u_imm word))

@@ -34,6 +34,7 @@ value_read read.Time retired reported = reported
 value_read read.Instret retired reported = retired
 value_read read.Absent retired reported = 0
 
+-- the value of a CSR before the instruction
 abbrev pub old_csr : HartState → ℕ → ℕ → ℕ
 old_csr hart number reported = value_read (read_of hart.csrs number) hart.retired reported
 

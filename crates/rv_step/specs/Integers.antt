@@ -28,17 +28,19 @@ number_of_test test = if test then 1 else 0
 abbrev pub low_word : ℕ → ℕ
 low_word a = a % 2 ^ 32
 
--- a sum and a difference
+-- a sum
 abbrev pub sum_of : ℕ → ℕ → ℕ
 sum_of a b = (a + b) % 2 ^ 64
 
+-- a difference
 abbrev pub sub_of : ℕ → ℕ → ℕ
 sub_of a b = (a + (2 ^ 64 - b)) % 2 ^ 64
 
--- a shift to the left, and a logical one to the right
+-- a shift to the left
 abbrev pub sll_of : ℕ → ℕ → ℕ
 sll_of a amount = a * 2 ^ amount % 2 ^ 64
 
+-- a logical shift to the right
 abbrev pub srl_of : ℕ → ℕ → ℕ
 srl_of a amount = a / 2 ^ amount
 

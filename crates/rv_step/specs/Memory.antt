@@ -28,10 +28,11 @@ store_size Sh = 2
 store_size Sw = 4
 store_size Sd = 8
 
--- how many bytes, and bits, an atomic instruction works on
+-- how many bytes an atomic instruction works on
 abbrev pub atomic_size : Bool → ℕ
 atomic_size wide = if wide then 8 else 4
 
+-- how many bits
 abbrev pub atomic_width : Bool → ℕ
 atomic_width wide = if wide then 64 else 32
 

@@ -156,6 +156,7 @@ pub record PlanOf : Type 0 where
   pub word : ℕ
   pub doing : Doing
 
+-- the plan of a hart, by the word at its pc, if there is one
 abbrev pub plan_fetched : HartState → Loaded → Config → Option ℕ → PlanOf
 plan_fetched hart image config None = record { word = 0; doing = trap fetch_fault hart.pc }
 plan_fetched hart image config (Some word) =

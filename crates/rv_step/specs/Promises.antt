@@ -48,14 +48,17 @@ abbrev pub is_store : Insn → Bool
 is_store (Store op rs1 rs2 imm) = true
 is_store _ = false
 
+-- LR
 abbrev pub is_lr : Insn → Bool
 is_lr (Lr wide aq rl rd rs1) = true
 is_lr _ = false
 
+-- SC
 abbrev pub is_sc : Insn → Bool
 is_sc (Sc wide aq rl rd rs1 rs2) = true
 is_sc _ = false
 
+-- an atomic operation
 abbrev pub is_amo : Insn → Bool
 is_amo (Amo op wide aq rl rd rs1 rs2) = true
 is_amo _ = false

@@ -32,6 +32,7 @@ pub record Done : Type 0 where
 abbrev pub rd_written : ℕ → ℕ → Option RdValue
 rd_written rd value = if rd == 0 then None else Some (record { number = rd; value = value })
 
+-- a CSR with a value
 abbrev pub csr_value : ℕ → ℕ → CsrValue
 csr_value number value = record { number = number; value = value }
 
@@ -190,6 +191,7 @@ finished hart outside (amo insn addr len) = executed hart outside insn
 abbrev pub HasLoaded : Outside → ℕ → Type 0
 HasLoaded outside len = MatchOption outside.load ⊥ (λ bytes. length bytes ≡ len)
 
+-- the same, for what is to be done
 abbrev pub IsLoaded : Outside → Doing → Type 0
 IsLoaded outside (trap cause value) = Unit {0}
 IsLoaded outside (plain insn) = Unit {0}
