@@ -174,7 +174,9 @@ module _ (t t' : Trace) (k : WellKinded t) (k' : WellKinded t') (go : (x : ℕ) 
   store_back : (w n : Op) (x : ℕ) → Contains t.ops w → IsPlaced w → Contains (everything t') n → writes x n ≡ true
       → precedes n w ≡ true → (v : Op) × WasStore n v x
   store_back w n x hw pw h q b = elim ((go x).back n h q) [
-    | inr m ↦ absurd (both_ways _ (before_asym (standing n) (standing w) b) (m.0 w (Contains-append_left t.ops t.early w hw) pw))
+    | inr m ↦
+        absurd (both_ways _ (before_asym (standing n) (standing w) b)
+        (m.0 w (Contains-append_left t.ops t.early w hw) pw))
     | inl v ↦ elim (place_cases v.0) [
       | inl p ↦ (
         v.0,
@@ -188,7 +190,9 @@ module _ (t t' : Trace) (k : WellKinded t) (k' : WellKinded t') (go : (x : ℕ) 
       )
       | inr e ↦ elim v.1.becomes.place [
         | inl f ↦ absurd (not_both n (before_placed n w pw b) (f ∙ e))
-        | inr m ↦ absurd (both_ways _ (before_asym (standing n) (standing w) b) (m.2 w (Contains-append_left t.ops t.early w hw) pw))
+        | inr m ↦
+            absurd (both_ways _ (before_asym (standing n) (standing w) b)
+            (m.2 w (Contains-append_left t.ops t.early w hw) pw))
       ]
     ]
   ]

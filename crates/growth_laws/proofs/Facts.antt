@@ -14,16 +14,12 @@ use Rattle.rvwmo_model.specs.declared.traces.Trace.{Trace}
 use Rattle.rvwmo_model.specs.Order.{kind_loads, kind_stores, loads, covers, precedes, everything}
 use Rattle.rvwmo_model.specs.ProgramOrder.{insn_of, is_one, is_older}
 use Rattle.rvwmo_model.specs.InForm.{IsPlaced}
-use Rattle.rvwmo_model.proofs.Walks.{found_in}
+use Rattle.rvwmo_model.proofs.LookUp.{found_in}
+use Rattle.rvwmo_model.proofs.Tested.{one_some}
 use Rattle.rvwmo_model.proofs.Totality.{stand_alike}
 use Rattle.growth_laws.specs.Kinds.{is_store, kind_of_insn, IsPlainStore, WellKinded}
 use Rattle.growth_laws.proofs.Places.{place_cases, not_both}
 use Rattle.rvwmo_model.specs.InsnKinds.{is_amo_or_sc}
-
-pub one_some : (test : Insn → Bool) (o : Option Retired) → is_one test o ≡ true → (w : Retired) × (o ≡ Some w)
-    × (test w.insn ≡ true)
-one_some test None e = absurd (false≢true e)
-one_some test (Some w) e = (w, refl, e)
 
 store_kind : (i : Insn) (stored : Bool) → is_store i ≡ true → kind_of_insn i stored ≡ Some kind.Store
 store_kind (Store op rs1 rs2 imm) stored e = refl

@@ -11,7 +11,7 @@ use Rattle.rvwmo_model.specs.Order.{precedes}
 use Rattle.rvwmo_model.specs.ProgramOrder.{insn_at, insn_of}
 use Rattle.rvwmo_model.specs.InForm.{AreRising, IsOf}
 use Rattle.rvwmo_model.proofs.Orders.{before_self}
-use Rattle.rvwmo_model.proofs.Walks.{found_in, named_self}
+use Rattle.rvwmo_model.proofs.LookUp.{found_in, named_self}
 use Rattle.tandem_base.specs.declared.names.Place.{Place}
 use Rattle.growth_laws.specs.Kinds.{SameInsn}
 use Rattle.growth_laws.specs.Growth.{with_insn, Keeps}

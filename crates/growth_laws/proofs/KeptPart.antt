@@ -13,7 +13,7 @@ use Rattle.rvwmo_model.specs.Order.{covers, everything}
 use Rattle.rvwmo_model.specs.ProgramOrder.{insn_at, insn_of, is_one}
 use Rattle.rvwmo_model.specs.Atomicity.{IsPair, IsWithin}
 use Rattle.rvwmo_model.specs.InForm.{IsOf, IsWhole, IsGranule, HasOne, InForm}
-use Rattle.rvwmo_model.proofs.Walks.{named_self}
+use Rattle.rvwmo_model.proofs.LookUp.{named_self}
 use Rattle.growth_laws.specs.Kinds.{is_store, SameInsn, IsNamed, InExtent, IsPlainStore, IsPlainAnnotated, WellKinded}
 use Rattle.growth_laws.specs.Growth.{IsPartOf, PerformsPart}
 use Rattle.growth_laws.proofs.Places.{not_both}

@@ -61,7 +61,11 @@ module _ (t u v : Trace) (x : ℕ) (s : Stays t u) where
       | inr f ↦ inr (above_back n f.0, λ w i e. f.1 w (s.insns w i) e)
       | inl m ↦ elim (a.back m.0 m.1.was m.1.stored) [
         | inl w ↦ inl (w.0, goes_on w.0 m.0 n w.1 m.1)
-        | inr f ↦ inr (above_on m.0 n m.1.becomes f.0, λ w i e. rw m.1.becomes.same.1 (f.1 w i (e ∙ m.1.becomes.same.0)))
+        | inr f ↦
+            inr (
+              above_on m.0 n m.1.becomes f.0,
+              λ w i e. rw m.1.becomes.same.1 (f.1 w i (e ∙ m.1.becomes.same.0)),
+            )
       ]
     ];
   }

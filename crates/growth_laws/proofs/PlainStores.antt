@@ -18,7 +18,8 @@ use Rattle.rvwmo_model.specs.Dependencies.{Flow, Dep, direct, along}
 use Rattle.rvwmo_model.specs.Flows.{flow_of, Depends}
 use Rattle.rvwmo_model.specs.Rules.{Holds}
 use Rattle.growth_laws.specs.Kinds.{is_store, IsPlainStore, WellKinded}
-use Rattle.growth_laws.proofs.Facts.{one_some, plain_kind}
+use Rattle.growth_laws.proofs.Facts.{plain_kind}
+use Rattle.rvwmo_model.proofs.Tested.{one_some}
 use Rattle.rv_decode.specs.Registers.{sets}
 use Rattle.rvwmo_model.specs.InsnKinds.{is_amo_or_sc, is_lr, is_sc}
 use Rattle.rvwmo_model.specs.Annotations.{is_annotated, is_rcsc}

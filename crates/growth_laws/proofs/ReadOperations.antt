@@ -10,9 +10,9 @@ use Rattle.rvwmo_model.specs.ProgramOrder.{insn_at, is_one}
 use Rattle.rvwmo_model.specs.Sources.{source, origin_of, origin}
 use Rattle.rvwmo_model.specs.Rules.{ReadsFrom, AddressOn, DataOn}
 use Rattle.rvwmo_model.proofs.Latest.{source_is}
-use Rattle.rvwmo_model.proofs.Walks.{found_in}
+use Rattle.rvwmo_model.proofs.LookUp.{found_in}
 use Rattle.growth_laws.specs.Kinds.{WellKinded}
-use Rattle.growth_laws.proofs.Facts.{one_some}
+use Rattle.rvwmo_model.proofs.Tested.{one_some}
 
 -- the source is an operation of the instruction of hart h under the tag k
 abbrev FromOps : Trace → Op → ℕ → ℕ → ℕ → Type 0

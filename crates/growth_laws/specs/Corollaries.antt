@@ -12,7 +12,8 @@ use Rattle.rvwmo_model.specs.Atomicity.{Torn}
 use Rattle.rvwmo_model.specs.InForm.{IsOf}
 use Rattle.rvwmo_model.specs.Legal.{WrongValue, Legal}
 use Rattle.growth_laws.specs.Kinds.{WellKinded}
-use Rattle.growth_laws.specs.Growth.{Same, AddEarly, AddsStore, AddsNothing, AddInsn, Growth, grow_same, grow_early, grow_insn, grow_stores, IsGrowing}
+use Rattle.growth_laws.specs.Growth.{Same, AddEarly, AddsStore, AddsNothing, AddInsn, Growth, grow_same}
+use Rattle.growth_laws.specs.Growth.{grow_early, grow_insn, grow_stores, IsGrowing}
 use Rattle.growth_laws.specs.Laws.{SourceStays, IsLeastRule, BrokenByStores}
 
 -- a growth that performs no store of an instruction that retired

@@ -20,7 +20,8 @@ use Rattle.rvwmo_model.specs.Tests.{is_after, is_late, intrudes, is_torn_at, tor
 use Rattle.rvwmo_model.specs.Tests.{block_byte, intrudes_block, is_torn}
 use Rattle.rvwmo_model.specs.Answer.{has_torn, least_of, torn_at, blamed, block_at, block_of, torn_of, pair_torn}
 use Rattle.rvwmo_model.specs.Answer.{atomicity_of, atomicity_answer}
-use Rattle.rvwmo_model.proofs.Tested.{not_false, both_is, either_is, not_is, itself_is}
+use Rattle.rvwmo_model.proofs.Searches.{not_false}
+use Rattle.rvwmo_model.proofs.Tested.{both_is, either_is, not_is, itself_is}
 use Rattle.rvwmo_model.proofs.Choices.{Computes, some_member, least_member, no_member, latest_anywhere, none_anywhere}
 use Rattle.rvwmo_model.proofs.Choices.{some_anywhere, ComputesByte, lowest_byte, no_byte, some_lowest}
 use Rattle.rvwmo_model.proofs.FoundPairs.{pair_is}

@@ -15,8 +15,8 @@ use Rattle.rvwmo_model.specs.Report.{AllPaired, IsAnswer}
 use Rattle.rvwmo_model.specs.Search.{some_byte}
 use Rattle.rvwmo_model.specs.Tests.{is_pair_of, is_pair, is_within, is_unpaired}
 use Rattle.rvwmo_model.specs.Answer.{least_of, pair_of, pair_answer}
-use Rattle.rvwmo_model.proofs.Searches.{some_byte_is, not_true}
-use Rattle.rvwmo_model.proofs.Tested.{not_false, both_is, paired_is}
+use Rattle.rvwmo_model.proofs.Searches.{some_byte_is, not_true, not_false}
+use Rattle.rvwmo_model.proofs.Tested.{both_is, paired_is}
 use Rattle.rvwmo_model.proofs.Choices.{Computes, some_member, least_member, no_member}
 use Rattle.rvwmo_model.specs.InsnKinds.{has_stored}
 

@@ -14,8 +14,7 @@ use Rattle.rvwmo_model.specs.InForm.{InForm}
 use Rattle.rvwmo_model.specs.Report.{IsLeast, HasWrong, AllPaired, AllRight, IsAnswer}
 use Rattle.rvwmo_model.specs.Tests.{is_wrong, wrong_byte}
 use Rattle.rvwmo_model.specs.Answer.{least_of, value_at, value_of, value_answer}
-use Rattle.rvwmo_model.proofs.Searches.{not_true}
-use Rattle.rvwmo_model.proofs.Tested.{not_false}
+use Rattle.rvwmo_model.proofs.Searches.{not_true, not_false}
 use Rattle.rvwmo_model.proofs.Choices.{Computes, least_member, no_member, ComputesByte, lowest_byte, no_byte}
 use Rattle.rvwmo_model.proofs.Choices.{some_lowest}
 

@@ -6,6 +6,8 @@ pub mod FoundOrder
 pub mod FoundPairs
 pub mod FoundValues
 pub mod Latest
+pub mod LookUp
+pub mod Marks
 pub mod Membership
 pub mod OperationKinds
 pub mod Orders

@@ -91,7 +91,8 @@ flip t t' r = record {
 -- ---- the words of the rules
 
 module _ (t t' : Trace) (a : Alike t t') (z : Alike t' t) where
-  one_on : (test : Insn → Bool) (h k : ℕ) → is_one test (insn_at t.insns h k) ≡ true → is_one test (insn_at t'.insns h k) ≡ true
+  one_on : (test : Insn → Bool) (h k : ℕ) → is_one test (insn_at t.insns h k) ≡ true
+      → is_one test (insn_at t'.insns h k) ≡ true
   one_on test h k e = subst (λ (l : List Retired). is_one test (insn_at l h k) ≡ true) (sym a.insns) e
 
   stored_on : (w : Op) → has_stored (insn_of t w) ≡ true → has_stored (insn_of t' w) ≡ true

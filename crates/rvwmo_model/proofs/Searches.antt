@@ -1,5 +1,5 @@
 -- What searches through lists and addresses find.
-use Rattle.std.proofs.Common.{ℕ, zero, suc, ◌+◌, ◌-◌, ◌<◌, ◌≤◌, ◌≡◌, ◌⊎◌, inl, inr, Bool, true, false, List, [], ◌∷◌}
+use Rattle.std.proofs.Common.{ℕ, zero, suc, ◌+◌, ◌-◌, ◌<◌, ◌≤◌, ◌≡◌, ◌⊎◌, inl, inr, Bool, true, false, not, List, [], ◌∷◌}
 use Rattle.std.proofs.Common.{◌&&◌, cond, leb, ltb, Option, Some, None, refl, sym, ap, subst, ◌∙◌, arith}
 use Rattle.std.specs.Bool.{Decides}
 use Rattle.std.specs.List.{Contains, filter, list_any}
@@ -32,6 +32,10 @@ some_is p (y ∷ ys) = (
 -- what isn't true is false
 pub not_true : (b : Bool) → (b ≡ true → ⊥) → b ≡ false
 not_true b f = elim (cases_Bool b) [ inl t ↦ absurd (f t) | inr e ↦ e ]
+
+pub not_false : (b : Bool) → not b ≡ true → b ≡ false
+not_false true e = absurd (both_ways false refl e)
+not_false false e = refl
 
 -- ---- addresses
 

@@ -25,18 +25,15 @@ use Rattle.rvwmo_model.specs.Walk.{use_of}
 use Rattle.rvwmo_model.specs.Tests.{is_between, overlap, same_origin, store_between, read_apart_at, read_apart}
 use Rattle.rvwmo_model.specs.Tests.{stands_with, is_operation, is_store_of, reads_from, parts_pair, is_pair_of}
 use Rattle.rvwmo_model.specs.Tests.{depends_at, depends_between, is_dependent, reads_dependent, holds, is_broken}
-use Rattle.rvwmo_model.proofs.Searches.{some_is, not_true, some_byte_is}
+use Rattle.rvwmo_model.proofs.Searches.{some_is, not_true, not_false, some_byte_is}
 use Rattle.rvwmo_model.proofs.Latest.{source_is}
 use Rattle.rvwmo_model.proofs.Orders.{before_self}
 use Rattle.rvwmo_model.proofs.Totality.{stand_alike}
-use Rattle.rvwmo_model.proofs.Walks.{found_in, named_self, finds_is}
+use Rattle.rvwmo_model.proofs.LookUp.{found_in, named_self}
+use Rattle.rvwmo_model.proofs.Walks.{finds_is}
 use Rattle.rvwmo_model.specs.InsnKinds.{is_amo_or_sc, is_lr, is_sc, fence_orders}
 
 -- ---- tests of tests
-
-pub not_false : (b : Bool) → not b ≡ true → b ≡ false
-not_false true e = absurd (false≢true e)
-not_false false e = refl
 
 pub both_is : (b c : Bool) (P Q : Type 0) → Decides b P → Decides c Q → Decides (b && c) (P × Q)
 both_is b c P Q d e = ((λ h. let p = and_parts b c h in (d.0 p.0, e.0 p.1)), λ h. and_from b c (d.1 h.0) (e.1 h.1))

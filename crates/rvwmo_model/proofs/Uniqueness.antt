@@ -24,7 +24,7 @@ use Rattle.rvwmo_model.proofs.Orders.{name_total}
 use Rattle.rvwmo_model.proofs.Reports.{report_one}
 use Rattle.rvwmo_model.proofs.Tested.{one_some}
 use Rattle.rvwmo_model.proofs.Totality.{one_name, stand_alike}
-use Rattle.rvwmo_model.proofs.Walks.{found_in}
+use Rattle.rvwmo_model.proofs.LookUp.{found_in}
 use Rattle.rvwmo_model.specs.InsnKinds.{is_lr, is_sc}
 
 least_one : (t : Trace) (P : Op → Type 0) (a b : Op) → InForm t → ((o : Op) → P o → Contains t.ops o) → IsLeast P a

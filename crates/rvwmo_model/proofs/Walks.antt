@@ -1,229 +1,25 @@
 -- The walk through the instructions finds what the definition of dependencies names.
-use Rattle.std.proofs.Common.{ℕ, zero, suc, ◌<◌, ◌≤◌, ◌≡◌, ◌⊎◌, inl, inr, Bool, true, false, not, List, [], ◌∷◌, ◌++◌}
-use Rattle.std.proofs.Common.{eqb, leb, ltb, cond, ◌&&◌, ◌||◌, Option, Some, None, refl, sym, ap, subst, ◌∙◌, arith}
+use Rattle.std.proofs.Common.{ℕ, zero, suc, ◌<◌, ◌≤◌, ◌≡◌, ◌⊎◌, inl, inr, Bool, true, false, List, [], ◌∷◌}
+use Rattle.std.proofs.Common.{eqb, leb, cond, ◌&&◌, ◌||◌, Option, Some, None, refl, sym, ap, subst, ◌∙◌, arith}
 use Rattle.std.specs.Bool.{Decides}
-use Rattle.std.specs.List.{Contains, filter, list_any}
-use Rattle.std.proofs.lemmas.Bool.{cases_Bool, cases_order, both_ways, false≢true, eqb-true, eq-eqb, ne_eqb, or_cases}
+use Rattle.std.specs.List.{Contains, list_any}
+use Rattle.std.proofs.lemmas.Bool.{cases_order, both_ways, false≢true, eqb-true, eq-eqb, or_cases}
 use Rattle.std.proofs.lemmas.Bool.{or_left, or_right, and_parts, and_from, leb-true, le-leb}
-use Rattle.std.proofs.lemmas.List.Elements.{Contains-append_cases, Contains-append_left, Contains-append_right}
 use Rattle.rv_decode.specs.declared.instruction.Insn.{Insn}
-use Rattle.rv_decode.specs.declared.instruction.Insn.TheVariants.{Lui, Auipc, Jal, Jalr, Branch, Load, Store, AluImm}
-use Rattle.rv_decode.specs.declared.instruction.Insn.TheVariants.{Alu, Fence, Ecall, Ebreak, Mret, Wfi, Csr, Lr, Sc}
-use Rattle.rv_decode.specs.declared.instruction.Insn.TheVariants.{Amo}
 use Rattle.rvwmo_model.specs.declared.instructions.Retired.{Retired}
 use Rattle.rv_decode.specs.declared.registers.Register.{Register}
-use Rattle.rv_decode.specs.declared.registers.Register.TheVariants as register
 use Rattle.rvwmo_model.specs.declared.judge.walk.Search.{Search}
 use Rattle.rvwmo_model.specs.Dependencies.{Flow, Reach, skip, here, through}
 use Rattle.rvwmo_model.specs.Flows.{flow_of, flows, DependsBy}
 use Rattle.rvwmo_model.specs.InForm.{AreRising}
 use Rattle.rvwmo_model.specs.ProgramOrder.{insn_at, is_one}
-use Rattle.rvwmo_model.specs.Walk.{use_of, fresh, list_of, mark, is_found, finds_from, finds}
-use Rattle.rvwmo_model.proofs.Membership.{nothing_in, head_in, tail_in, first_in, in_cases, in_filter, from_filter}
-use Rattle.rvwmo_model.proofs.Membership.{pairs_head, pairs_tail}
+use Rattle.rvwmo_model.specs.Walk.{use_of, mark, is_found, finds_from, finds}
+use Rattle.rvwmo_model.proofs.Membership.{nothing_in, head_in, tail_in, in_cases}
 use Rattle.rvwmo_model.proofs.Reaching.{reach_from_dep, dep_from_reach}
 use Rattle.rvwmo_model.proofs.Searches.{some_is}
-use Rattle.rv_decode.specs.Registers.{is_x, is_csr, sets, carries, writes_csr, rd_of, csr_of}
-
--- ---- look-up by tag
-
--- what is found under a tag is in the list, and has that hart and tag
-pub found_in : (insns : List Retired) (h k : ℕ) (w : Retired) → insn_at insns h k ≡ Some w → Contains insns w
-    × (w.hart ≡ h) × (w.tag ≡ k)
-found_in [] h k w e = absurd (cc)
-found_in (r ∷ rs) h k w e = at ((eqb r.hart h) && (eqb r.tag k)) refl e (found_in rs h k w)
-  where
-    at : (b : Bool) → (eqb r.hart h && eqb r.tag k) ≡ b → cond b (Some r) (insn_at rs h k) ≡ Some w
-        → (insn_at rs h k ≡ Some w → Contains rs w × (w.hart ≡ h) × (w.tag ≡ k)) → Contains (r ∷ rs) w × (w.hart ≡ h)
-        × (w.tag ≡ k)
-    at false q f rec = let t = rec f in (tail_in r rs w t.0, t.1, t.2)
-    at true q f rec =
-        let same : r ≡ w = cc in
-        let p = and_parts (eqb r.hart h) (eqb r.tag k) q in (
-          first_in r rs w (sym same),
-          sym (ap (λ (z : Retired). z.hart) same) ∙ eqb-true r.hart h p.0,
-          sym (ap (λ (z : Retired). z.tag) same) ∙ eqb-true r.tag k p.1,
-        )
-
--- an instruction that stands there
-look_here : (w : Retired) (ws : List Retired) (h k : ℕ) → w.hart ≡ h → w.tag ≡ k → insn_at (w ∷ ws) h k ≡ Some w
-look_here w ws h k a b = rw (eq-eqb w.hart h a, eq-eqb w.tag k b) refl
-
--- one of another hart
-look_hart : (w : Retired) (ws : List Retired) (h k : ℕ) → eqb w.hart h ≡ false → insn_at (w ∷ ws) h k ≡ insn_at ws h k
-look_hart w ws h k e = rw e refl
-
--- one under another tag
-look_tag : (w : Retired) (ws : List Retired) (h k : ℕ) → (w.tag ≡ k → ⊥) → insn_at (w ∷ ws) h k ≡ insn_at ws h k
-look_tag w ws h k ne = at (eqb w.hart h) refl
-  where
-    at : (b : Bool) → eqb w.hart h ≡ b → cond (eqb w.hart h && eqb w.tag k) (Some w) (insn_at ws h k) ≡ insn_at ws h k
-    at true e = rw (e, ne_eqb w.tag k ne) refl
-    at false e = rw e refl
-
--- no instruction of a hart stands under a tag, where all have other tags
-look_none : (ws : List Retired) (h k : ℕ) → ((v : Retired) → Contains ws v → v.hart ≡ h → v.tag ≡ k → ⊥)
-    → insn_at ws h k ≡ None
-look_none ws h k none = at (insn_at ws h k) refl
-  where
-    at : (o : Option Retired) → insn_at ws h k ≡ o → insn_at ws h k ≡ None
-    at None e = e
-    at (Some w) e = let f = found_in ws h k w e in absurd (none w f.0 f.1 f.2)
-
--- the first of rising instructions is below those of its hart that follow
-pub rising_head : (w : Retired) (ws : List Retired) → AreRising (w ∷ ws) → (v : Retired) → Contains ws v
-    → v.hart ≡ w.hart → w.tag < v.tag
-rising_head w ws r v i = pairs_head (λ (w v : Retired). v.hart ≡ w.hart → w.tag < v.tag) w ws r v i
-
-pub rising_tail : (w : Retired) (ws : List Retired) → AreRising (w ∷ ws) → AreRising ws
-rising_tail w ws r = pairs_tail (λ (w v : Retired). v.hart ≡ w.hart → w.tag < v.tag) w ws r
-
--- each instruction is found under its own tag
-pub named_self : (insns : List Retired) (w : Retired) → AreRising insns → Contains insns w
-    → insn_at insns w.hart w.tag ≡ Some w
-named_self [] w r h = absurd (nothing_in w h)
-named_self (v ∷ vs) w r h = at (in_cases v vs w h) (λ i. named_self vs w (rising_tail v vs r) i)
-  where
-    at : (w ≡ v) ⊎ Contains vs w → (Contains vs w → insn_at vs w.hart w.tag ≡ Some w)
-        → insn_at (v ∷ vs) w.hart w.tag ≡ Some w
-    at (inl e) rec = look_here v vs w.hart w.tag (ap (λ (z : Retired). z.hart) (sym e))
-        (ap (λ (z : Retired). z.tag) (sym e)) ∙ ap (λ (z : Retired). Some z) (sym e)
-    at (inr i) rec = elim (cases_Bool (eqb v.hart w.hart)) [
-      | inl e ↦
-          let l : v.tag < w.tag = rising_head v vs r w i (sym (eqb-true _ _ e)) in
-          look_tag v vs w.hart w.tag (λ q. omega arith) ∙ rec i
-      | inr e ↦ look_hart v vs w.hart w.tag e ∙ rec i
-    ]
-
--- ---- the marks after one instruction
-
--- a register that an instruction sets is its rd or its CSR
-x_is : (n : ℕ) (q : Register) → is_x n q ≡ true → q ≡ register.X n
-x_is n (register.X m) e = let p = and_parts (ltb 0 n) (eqb m n) e in ap (λ (k : ℕ). register.X k) (eqb-true m n p.1)
-x_is n (register.Csr m) e = absurd (false≢true e)
-
-csr_is : (n : ℕ) (q : Register) → is_csr n q ≡ true → q ≡ register.Csr n
-csr_is n (register.X m) e = absurd (false≢true e)
-csr_is n (register.Csr m) e = ap (λ (k : ℕ). register.Csr k) (eqb-true m n e)
-
-abbrev IsTarget : Insn → Register → Type 0
-IsTarget w q = (rd_of w ≡ Some q) ⊎ (csr_of w ≡ Some q)
-
-rd_target : (n : ℕ) (q : Register) → is_x n q ≡ true → Some (register.X n) ≡ Some q
-rd_target n q e = ap (λ (r : Register). Some r) (sym (x_is n q e))
-
-set_target : (w : Insn) (stored : Bool) (q : Register) → sets w stored q ≡ true → IsTarget w q
-set_target (Lui rd imm) stored q e = inl (rd_target rd q e)
-set_target (Auipc rd imm) stored q e = inl (rd_target rd q e)
-set_target (Jal rd imm) stored q e = inl (rd_target rd q e)
-set_target (Jalr rd rs1 imm) stored q e = inl (rd_target rd q e)
-set_target (Branch op rs1 rs2 imm) stored q e = absurd (false≢true e)
-set_target (Load op rd rs1 imm) stored q e = inl (rd_target rd q e)
-set_target (Store op rs1 rs2 imm) stored q e = absurd (false≢true e)
-set_target (AluImm op rd rs1 imm) stored q e = inl (rd_target rd q e)
-set_target (Alu op rd rs1 rs2) stored q e = inl (rd_target rd q e)
-set_target (Fence fm before after rd rs1) stored q e = absurd (false≢true e)
-set_target Ecall stored q e = absurd (false≢true e)
-set_target Ebreak stored q e = absurd (false≢true e)
-set_target Mret stored q e = absurd (false≢true e)
-set_target Wfi stored q e = absurd (false≢true e)
-set_target (Csr op rd source number) stored q e =
-    elim (or_cases (is_x rd q) (writes_csr op source && is_csr number q) e) [
-      | inl a ↦ inl (rd_target rd q a)
-      | inr b ↦ inr (ap (λ (r : Register). Some r)
-          (sym (csr_is number q (and_parts (writes_csr op source) (is_csr number q) b).1)))
-    ]
-set_target (Lr wide aq rl rd rs1) stored q e = inl (rd_target rd q e)
-set_target (Sc wide aq rl rd rs1 rs2) stored q e = inl (rd_target rd q (and_parts stored (is_x rd q) e).1)
-set_target (Amo op wide aq rl rd rs1 rs2) stored q e = inl (rd_target rd q e)
-
--- w starts, or carries something marked to q
-abbrev Gives : Retired → Bool → List Register → Register → Bool
-Gives w starts marks q = starts || list_any (λ p. carries w.insn p q) marks
-
-fresh_in : (w : Retired) (starts : Bool) (marks : List Register) (o : Option Register) (q : Register)
-    → Contains (list_of (fresh w starts marks o)) q → (sets w.insn w.stored q ≡ true) × (Gives w starts marks q ≡ true)
-fresh_in w starts marks None q h = absurd (nothing_in q h)
-fresh_in w starts marks (Some r) q h = at (sets w.insn w.stored r && Gives w starts marks r) refl h
-  where
-    at : (b : Bool) → (sets w.insn w.stored r && Gives w starts marks r) ≡ b
-        → Contains (list_of (cond b (Some r) None)) q → (sets w.insn w.stored q ≡ true)
-        × (Gives w starts marks q ≡ true)
-    at true e s = elim (in_cases r [] q s) [
-      | inl same ↦ let p = and_parts (sets w.insn w.stored r) (Gives w starts marks r) e in
-          subst (λ (z : Register). (sets w.insn w.stored z ≡ true) × (Gives w starts marks z ≡ true)) (sym same) p
-      | inr i ↦ absurd (nothing_in q i)
-    ]
-    at false e s = absurd (nothing_in q s)
-
-fresh_of : (w : Retired) (starts : Bool) (marks : List Register) (q : Register) → sets w.insn w.stored q ≡ true
-    → Gives w starts marks q ≡ true → Contains (list_of (fresh w starts marks (Some q))) q
-fresh_of w starts marks q s g = subst (λ (b : Bool). Contains (list_of (cond b (Some q) None)) q)
-    (sym (and_from (sets w.insn w.stored q) (Gives w starts marks q) s g)) (head_in q [])
-
-not_false : (b : Bool) → not b ≡ true → b ≡ false
-not_false true e = absurd (false≢true e)
-not_false false e = refl
-
--- a register is marked after w: it was, and w doesn't set it; or w sets it, and starts, or carries a marked one to it
-abbrev MarkedBy : Retired → Bool → List Register → Register → Type 0
-MarkedBy w starts marks q = (Contains marks q × (sets w.insn w.stored q ≡ false))
-    ⊎ ((sets w.insn w.stored q ≡ true) × (Gives w starts marks q ≡ true))
-
-fresh_nothing : (w : Retired) (o : Option Register) → fresh w false [] o ≡ None
-fresh_nothing w None = refl
-fresh_nothing w (Some r) = at (sets w.insn w.stored r)
-  where
-    at : (b : Bool) → cond (b && (false || false)) (Some r) None ≡ None
-    at true = refl
-    at false = refl
-
--- where nothing is marked, an instruction at which the walk doesn't start marks nothing
-pub mark_nothing : (w : Retired) (starts : Bool) (marks : List Register) → marks ≡ [] → starts ≡ false
-    → mark w starts marks ≡ []
-mark_nothing w starts marks e f = rw (e, f, fresh_nothing w (rd_of w.insn), fresh_nothing w (csr_of w.insn)) refl
-
-mark_in : (w : Retired) (starts : Bool) (marks : List Register) (q : Register) → Contains (mark w starts marks) q
-    → MarkedBy w starts marks q
-mark_in w starts marks q h =
-    elim (Contains-append_cases
-    (filter (λ r. not (sets w.insn w.stored r)) marks ++ list_of (fresh w starts marks (rd_of w.insn)))
-    (list_of (fresh w starts marks (csr_of w.insn))) q h) [
-      | inl a ↦ elim (Contains-append_cases (filter (λ r. not (sets w.insn w.stored r)) marks)
-          (list_of (fresh w starts marks (rd_of w.insn))) q a) [
-            | inl b ↦ let f = from_filter (λ r. not (sets w.insn w.stored r)) marks q b in
-                inl (f.0, not_false (sets w.insn w.stored q) f.1)
-            | inr b ↦ inr (fresh_in w starts marks (rd_of w.insn) q b)
-          ]
-      | inr a ↦ inr (fresh_in w starts marks (csr_of w.insn) q a)
-    ]
-
-in_mark : (w : Retired) (starts : Bool) (marks : List Register) (q : Register) → MarkedBy w starts marks q
-    → Contains (mark w starts marks) q
-in_mark w starts marks q m = at m
-  where
-    kept : List Register
-    kept = filter (λ r. not (sets w.insn w.stored r)) marks
-
-    rd : List Register
-    rd = list_of (fresh w starts marks (rd_of w.insn))
-
-    csr : List Register
-    csr = list_of (fresh w starts marks (csr_of w.insn))
-
-    at : MarkedBy w starts marks q → Contains ((kept ++ rd) ++ csr) q
-    at (inl h) =
-        Contains-append_left (kept ++ rd) csr q
-        (Contains-append_left kept rd q (in_filter (λ r. not (sets w.insn w.stored r)) marks q h.0 (ap not h.1)))
-    at (inr h) = elim (set_target w.insn w.stored q h.0) [
-      | inl e ↦ Contains-append_left (kept ++ rd) csr q
-          (Contains-append_right kept rd q
-          (subst (λ (o : Option Register). Contains (list_of (fresh w starts marks o)) q) (sym e)
-          (fresh_of w starts marks q h.0 h.1)))
-      | inr e ↦ Contains-append_right (kept ++ rd) csr q
-          (subst (λ (o : Option Register). Contains (list_of (fresh w starts marks o)) q) (sym e)
-          (fresh_of w starts marks q h.0 h.1))
-    ]
+use Rattle.rv_decode.specs.Registers.{sets, carries}
+use Rattle.rvwmo_model.proofs.LookUp.{look_here, look_hart, look_tag, look_none, rising_head, rising_tail}
+use Rattle.rvwmo_model.proofs.Marks.{MarkedBy, mark_in, in_mark}
 
 -- ---- what depends, and what is marked
 
@@ -435,7 +231,9 @@ finds_from_is search insns n marks (w ∷ ws) rising later same st =
               (λ (k : ℕ). (search.from ≤ k) × (k ≤ search.to) × DependsBy (use_of search.by) insns search.hart k
               search.start) q (f.2, f.3, f.4)))
           | inr o ↦ elim o [
-            | inl l ↦ absurd (not_there (λ v. use_of search.by v f.4.0) (insn_at insns search.hart f.0) (none f.0 f.1 l) f.4.1)
+            | inl l ↦
+                absurd (not_there (λ v. use_of search.by v f.4.0) (insn_at insns search.hart f.0)
+                (none f.0 f.1 l) f.4.1)
             | inr l ↦ or_right (is_found search marks w) _ (rest.1 (f.0, l, f.2, f.3, f.4))
           ]
         ]

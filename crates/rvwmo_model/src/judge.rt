@@ -2,6 +2,9 @@
 
 mod answers;
 mod atomic;
+mod kinds;
+mod naming;
+mod order;
 mod rules;
 mod sources;
 mod walk;

@@ -1,7 +1,8 @@
 //! Laws of the definitions: functions that do nothing, whose clauses are the laws.
 
 ghost use Rattle.rvwmo_model.specs.Laws.{GlobalOrder, SourceIsLatest, DependencyIsWalk, FenceTso, FenceBySets};
-ghost use Rattle.rvwmo_model.specs.Laws.{AmoIsLoadAndStore, ReportIsOne, ReportIsWhereBroken, AnswerIsOne, AnswerOfMembers};
+ghost use Rattle.rvwmo_model.specs.Laws.{AmoIsLoadAndStore, ReportIsOne, ReportIsWhereBroken};
+ghost use Rattle.rvwmo_model.specs.Laws.{AnswerIsOne, AnswerOfMembers};
 
 /// The global order is a strict total order on the operations of a trace in form.
 #[tactic(auto, using(crate::proofs::Totality::total_order))]

@@ -12,37 +12,14 @@ ghost use Rattle.rvwmo_model.specs.Tests;
 use super::atomic::{
     blamed, block_byte, is_torn, is_unpaired, latest_intruder, or_address, torn_byte,
 };
-use super::rules::is_broken;
-use super::sources::{keep_later, key_of, source};
+use super::naming::least;
+use super::order::order_answer;
+use super::sources::{key_of, source};
 use crate::answers::Judged;
 use crate::initial::InitialBytes;
 use crate::operations::Op;
-use crate::preserved::Rule;
 use crate::traces::Trace;
 use std::alloc::{AllocError, Global};
-
-#[tactic(auto, unfolding(crate::specs::Order::named_before))]
-fn is_named_first(a: &Op, b: &Op) -> bool
-    ensures { result ≡ Answer.is_named_first a.now b.now }
-{
-    let (m, n) = (a.name, b.name);
-    m.hart < n.hart || m.hart == n.hart && (m.tag < n.tag || m.tag == n.tag && m.part < n.part)
-}
-
-fn least(best: Option<Op>, o: &Op) -> Option<Op>
-    ensures { result ≡ Search.better_of Answer.is_named_first best o.now }
-{
-    match best {
-        None => Some(*o),
-        Some(v) => {
-            if is_named_first(o, &v) {
-                Some(*o)
-            } else {
-                Some(v)
-            }
-        }
-    }
-}
 
 // ---- pair
 
@@ -131,128 +108,6 @@ pub fn value_answer<I: InitialBytes>(image: &I, t: &Trace) -> Option<Judged>
         None => None,
         Some(i) => value_at(image, t, &i, wrong_byte(image, t, &i)),
     }
-}
-
-// ---- order
-
-fn some_first(alloc: Global, rule: Rule, t: &Trace, ops: &[Op], b: &Op) -> Result<bool, AllocError>
-    ensures { IfOk result (λ found. found ≡ list_any (λ a. Tests.is_broken rule t.now a b.now) ops.now) }
-{
-    for a in ops {
-        if is_broken(alloc, rule, t, a, b)? {
-            return Ok(true);
-        }
-    }
-    Ok(false)
-}
-
-#[tactic(auto, unfolding(crate::specs::Answer::has_first))]
-fn has_first(alloc: Global, rule: Rule, t: &Trace, b: &Op) -> Result<bool, AllocError>
-    ensures { IfOk result (λ found. found ≡ Answer.has_first rule t.now b.now) }
-{
-    some_first(alloc, rule, t, t.ops.items(), b)
-}
-
-fn latest_first(
-    alloc: Global,
-    rule: Rule,
-    t: &Trace,
-    ops: &[Op],
-    b: &Op,
-) -> Result<Option<Op>, AllocError>
-    ensures { IfOk result (λ first. first
-        ≡ Sources.latest_from None (filter (λ a. Tests.is_broken rule t.now a b.now) ops.now)) }
-{
-    let mut best = None;
-    for a in ops {
-        if is_broken(alloc, rule, t, a, b)? {
-            keep_later(&mut best, a);
-        }
-    }
-    Ok(best)
-}
-
-fn least_second(alloc: Global, rule: Rule, t: &Trace, ops: &[Op]) -> Result<Option<Op>, AllocError>
-    ensures { IfOk result (λ second. second ≡ Answer.least_of (Answer.has_first rule t.now) ops.now) }
-{
-    let mut best = None;
-    for b in ops {
-        if has_first(alloc, rule, t, b)? {
-            best = least(best, b);
-        }
-    }
-    Ok(best)
-}
-
-fn second_of(alloc: Global, rule: Rule, t: &Trace) -> Result<Option<Op>, AllocError>
-    ensures { IfOk result (λ second. second ≡ Answer.second_of rule t.now) }
-{
-    least_second(alloc, rule, t, t.ops.items())
-}
-
-fn first_of(alloc: Global, rule: Rule, t: &Trace, b: &Op) -> Result<Option<Op>, AllocError>
-    ensures { IfOk result (λ first. first ≡ Answer.first_of rule t.now b.now) }
-{
-    latest_first(alloc, rule, t, t.ops.items(), b)
-}
-
-fn order_pair(rule: Rule, b: &Op, first: Option<Op>) -> Option<Judged>
-    ensures { result ≡ Answer.order_pair rule b.now first }
-{
-    match first {
-        None => None,
-        Some(a) => Some(Judged::Order {
-            rule: rule.number(),
-            first: a.name,
-            second: b.name,
-        }),
-    }
-}
-
-fn order_of(alloc: Global, rule: Rule, t: &Trace) -> Result<Option<Judged>, AllocError>
-    ensures { IfOk result (λ answer. answer ≡ Answer.order_of rule t.now (Answer.second_of rule t.now)) }
-{
-    match second_of(alloc, rule, t)? {
-        None => Ok(None),
-        Some(b) => {
-            let first = first_of(alloc, rule, t, &b)?;
-            Ok(order_pair(rule, &b, first))
-        }
-    }
-}
-
-fn order_from(alloc: Global, t: &Trace, rules: &[Rule]) -> Result<Option<Judged>, AllocError>
-    ensures { IfOk result (λ answer. answer ≡ Answer.order_from t.now rules.now) }
-{
-    for rule in rules {
-        let answer = order_of(alloc, *rule, t)?;
-        if answer.is_some() {
-            return Ok(answer);
-        }
-    }
-    Ok(None)
-}
-
-/// The offence of order, where there is one.
-pub fn order_answer(alloc: Global, t: &Trace) -> Result<Option<Judged>, AllocError>
-    ensures { IfOk result (λ answer. answer ≡ Answer.order_answer t.now) }
-{
-    let rules = [
-        Rule::R1,
-        Rule::R2,
-        Rule::R3,
-        Rule::R4,
-        Rule::R5,
-        Rule::R6,
-        Rule::R7,
-        Rule::R8,
-        Rule::R9,
-        Rule::R10,
-        Rule::R11,
-        Rule::R12,
-        Rule::R13,
-    ];
-    order_from(alloc, t, &rules)
 }
 
 // ---- atomicity

@@ -8,7 +8,8 @@ ghost use Rattle.rvwmo_model.specs.Search;
 ghost use Rattle.rvwmo_model.specs.Sources;
 ghost use Rattle.rvwmo_model.specs.Tests;
 
-use super::rules::{is_pair_of, is_sc};
+use super::kinds::is_sc;
+use super::rules::is_pair_of;
 use super::sources::{insn_of, keep_later, source};
 use crate::instructions::Retired;
 use crate::operations::Op;

@@ -3,20 +3,19 @@
 ghost use Rattle.std.specs.Prelude.{◌≡◌, ◌<◌, ◌&&◌, ◌||◌, IfOk};
 ghost use Rattle.std.specs.List.{list_any};
 ghost use Rattle.rvwmo_model.specs.Order;
-ghost use Rattle.rvwmo_model.specs.ProgramOrder;
 ghost use Rattle.rvwmo_model.specs.Sources;
 ghost use Rattle.rvwmo_model.specs.declared.judge.walk.Use.TheVariants.{Address, Data};
-ghost use Rattle.rvwmo_model.specs.Annotations;
-ghost use Rattle.rvwmo_model.specs.InsnKinds;
 ghost use Rattle.rvwmo_model.specs.Tests;
 
+use super::kinds::{
+    fence_orders, found_lr, found_sc, has_rcsc, is_amo_or_sc, is_annotated, is_lr, is_sc,
+};
 use super::sources::{insn_of, is_operation, origin, same_origin, source};
 use super::walk::{Search, Use, finds};
 use crate::instructions::Retired;
-use crate::operations::{Ann, Op, OpKind};
+use crate::operations::Op;
 use crate::preserved::Rule;
 use crate::traces::Trace;
-use rv_decode::Insn;
 use std::alloc::{AllocError, Global};
 
 fn is_between(a: &Op, b: &Op, hart: u8, tag: u64) -> bool
@@ -69,15 +68,6 @@ fn read_apart(t: &Trace, a: &Op, b: &Op) -> bool
     found
 }
 
-fn is_amo_or_sc(insn: Option<Retired>) -> bool
-    ensures { result ≡ ProgramOrder.is_one InsnKinds.is_amo_or_sc insn }
-{
-    match insn {
-        None => false,
-        Some(w) => matches!(w.insn, Insn::Sc { .. } | Insn::Amo { .. }),
-    }
-}
-
 /// Whether the source is an operation of the instruction of a hart under a tag.
 fn is_store_of(t: &Trace, hart: u8, tag: u64, source: &Option<Op>) -> bool
     ensures { result ≡ Tests.is_store_of t.now hart tag source.now }
@@ -106,27 +96,6 @@ fn reads_atomic(t: &Trace, a: &Op, b: &Op) -> bool
     is_amo_or_sc(insn_of(t, a)) && reads_from(t, b, a.name.hart, a.name.tag)
 }
 
-fn in_set(set: u8, kind: OpKind) -> bool
-    ensures { result ≡ InsnKinds.in_set set kind }
-{
-    set / 2 % 2 == 1 && kind.loads() || set % 2 == 1 && kind.stores()
-}
-
-fn fence_orders(insn: &Insn, a: OpKind, b: OpKind) -> bool
-    ensures { result ≡ InsnKinds.fence_orders insn.now a b }
-{
-    match *insn {
-        Insn::Fence { fm, pred, succ, .. } => {
-            if fm == 8 && pred == 3 && succ == 3 {
-                a.loads() || a.stores() && b.stores()
-            } else {
-                in_set(pred, a) && in_set(succ, b)
-            }
-        }
-        _ => false,
-    }
-}
-
 fn fenced(insns: &[Retired], a: &Op, b: &Op) -> bool
     ensures { result ≡ list_any (Tests.fence_at a.now b.now) insns.now }
 {
@@ -136,69 +105,6 @@ fn fenced(insns: &[Retired], a: &Op, b: &Op) -> bool
         }
     }
     false
-}
-
-fn is_annotated(ann: Ann) -> bool
-    ensures { result ≡ Annotations.is_annotated ann }
-{
-    match ann {
-        Ann::None => false,
-        Ann::Rcpc => true,
-        Ann::Rcsc => true,
-    }
-}
-
-fn is_rcsc(ann: Ann) -> bool
-    ensures { result ≡ Annotations.is_rcsc ann }
-{
-    match ann {
-        Ann::None => false,
-        Ann::Rcpc => false,
-        Ann::Rcsc => true,
-    }
-}
-
-fn has_rcsc(o: &Op) -> bool
-    ensures { result ≡ Annotations.has_rcsc o.now }
-{
-    is_rcsc(o.acquire) || is_rcsc(o.release)
-}
-
-fn is_lr(insn: &Insn) -> bool
-    ensures { result ≡ InsnKinds.is_lr insn.now }
-{
-    match *insn {
-        Insn::Lr { .. } => true,
-        _ => false,
-    }
-}
-
-/// Whether it is an SC.
-pub fn is_sc(insn: &Insn) -> bool
-    ensures { result ≡ InsnKinds.is_sc insn.now }
-{
-    match *insn {
-        Insn::Sc { .. } => true,
-        _ => false,
-    }
-}
-
-fn found_lr(insn: Option<Retired>) -> bool
-    ensures { result ≡ ProgramOrder.is_one InsnKinds.is_lr insn }
-{
-    match insn {
-        None => false,
-        Some(w) => is_lr(&w.insn),
-    }
-}
-
-fn found_sc(insn: Option<Retired>) -> bool
-    ensures { result ≡ ProgramOrder.is_one InsnKinds.is_sc insn }
-{
-    match insn {
-        None => false,
-        Some(w) => is_sc(&w.insn),
-    }
 }
 
 fn some_parts_pair(insns: &[Retired], a: &Op, b: &Op) -> bool

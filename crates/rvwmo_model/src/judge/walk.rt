@@ -106,7 +106,7 @@ fn push_some(marks: &mut Vec<Register>, r: Option<Register>) -> Result<(), Alloc
     }
 }
 
-#[tactic(auto, using(crate::proofs::Walks::mark_nothing))]
+#[tactic(auto, using(crate::proofs::Marks::mark_nothing))]
 fn mark(marks: &mut Vec<Register>, w: &Retired, starts: bool) -> Result<(), AllocError>
     ensures { IfOk result (λ _. marks.new.items ≡ Walk.mark w.now starts marks.old.items) }
 {

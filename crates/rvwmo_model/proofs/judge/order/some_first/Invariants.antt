@@ -1,6 +1,6 @@
 use Rattle.std.proofs.Common.{◌≡◌, drop}
 use Rattle.rvwmo_model.specs.Tests.{is_broken}
-use Rattle.rvwmo_model.proofs.judge.answers.some_first.Given as goal
+use Rattle.rvwmo_model.proofs.judge.order.some_first.Given as goal
 use Rattle.std.specs.List.{list_any}
 
 abbrev pub invariant-loop-a : goal.invariant-loop-a
