@@ -1,3 +1,5 @@
+//! Reads and writes that fail.
+
 ghost use Rattle.std.specs.Prelude.{◌≤◌};
 
 use super::support::{Run, expect_line, inputs_of, words_of};

@@ -1,3 +1,5 @@
+//! Images, words and streams that are larger than a careless body would take.
+
 use super::support::{Run, expect_line, inputs_of};
 use std::alloc::{AllocError, Global};
 use std::test::Fail;
@@ -9,6 +11,18 @@ const FAR: &str = "1a000100000000000000000000000000000000000101000000000000\
      3200070002000000000000000200000000000000000001800000000093005000040001800000000002000100\
      0500000000000000\
      1200090003000000000000000000000000000000";
+
+// AUIPC of 8 MiB, JALR to the word before, and an ADDI there.
+const FARTHEST: &str = "1a000100000000000000000000000000000000000101000000000000\
+     32000700010000000000000001000000000000000000008000000000970280000400008000000000020005000000808000000000\
+     320007000200000000000000020000000000000004000080000000006780c2fffcff7f8000000000000000000000000000000000\
+     3200070003000000000000000300000000000000fcff7f8000000000930050000000808000000000020001000500000000000000\
+     1200090004000000000000000000000000000000";
+
+// The report of a JAL to itself: what comes before its time and its tag, and what comes behind.
+const JUMP: &str = "32000700";
+
+const JUMPED: &str = "00000080000000006f0000000000008000000000000000000000000000000000";
 
 const ACCEPTED: &str = "ACCEPT messages=4 retired=2 operations=0\n";
 
@@ -51,7 +65,7 @@ fn far_inputs(alloc: Global, headers: &str, step: usize) -> Result<MemInputs, Fa
 /// The words, with so many options for ranges of 4 KiB of RAM behind them.
 fn with_ranges(alloc: Global, words: &str, count: u64) -> Result<String, AllocError> {
     let mut text = String::from_str(alloc, words)?;
-    for k in 0..count.min(100) {
+    for k in 0..count.min(1000) {
         let option = format!(in alloc; " --ram {}:4096", 0x9000_0000 + 4096 * k)?;
         text.push_str(option.as_str())?;
     }
@@ -140,4 +154,63 @@ fn long_words_are_taken(rt: HostRuntime) -> Result<(), Fail> {
     let words = format!(in alloc; "check {name} s --flat 0x80000000")?;
     let line = format!(in alloc; "INPUT missing {name}\n")?;
     expect_line(&rt, alloc, words.as_str(), &mut ins, line.as_str(), 3)
+}
+
+#[test]
+fn an_image_of_8_mib_is_read(rt: HostRuntime) -> Result<(), Fail> {
+    let alloc = rt.alloc();
+    let mut image = hex::decode(alloc, "970280006780c2ff")?;
+    let zeros = Vec::from_elem(alloc, 0u8, 8_388_596)?;
+    image.extend_from_slice(&zeros)?;
+    image.extend_from_slice(&[0x93, 0x00, 0x50, 0x00])?;
+    let stream = hex::decode(alloc, FARTHEST)?;
+    let mut ins = MemInputs::new(alloc, 1_000_000);
+    ins.add("i", &image)?;
+    ins.add("s", &stream)?;
+    let accepted = "ACCEPT messages=5 retired=3 operations=0\n";
+    let words = "check i s --flat 0x80000000";
+    expect_line(&rt, alloc, words, &mut ins, accepted, 0)
+}
+
+#[test]
+fn two_thousand_words_are_taken(rt: HostRuntime) -> Result<(), Fail> {
+    let alloc = rt.alloc();
+    let mut ins = inputs_of(alloc, &IDLE, 4096)?;
+    let words = with_ranges(alloc, "check i s", 999)?;
+    let refused = "IMAGE 1 NotElf\n";
+    expect_line(&rt, alloc, words.as_str(), &mut ins, refused, 4)?;
+    let words = with_ranges(alloc, IDLE.words, 998)?;
+    let refused = "IMAGE 8 TooLarge Ranges 998\n";
+    expect_line(&rt, alloc, words.as_str(), &mut ins, refused, 4)
+}
+
+/// The Open, so many Retires of the jump, and the End.
+fn jumps(alloc: Global, count: u64) -> Result<Vec<u8>, Fail> {
+    let mut stream = hex::decode(alloc, IDLE.stream)?;
+    stream.truncate(28);
+    let before = hex::decode(alloc, JUMP)?;
+    let behind = hex::decode(alloc, JUMPED)?;
+    for number in 1..=count.min(1_000_000) {
+        let bytes = number.to_le_bytes();
+        stream.extend_from_slice(&before)?;
+        stream.extend_from_slice(&bytes)?;
+        stream.extend_from_slice(&bytes)?;
+        stream.extend_from_slice(&behind)?;
+    }
+    stream.extend_from_slice(&[18, 0, 9, 0])?;
+    stream.extend_from_slice(&count.to_le_bytes())?;
+    stream.extend_from_slice(&[0; 8])?;
+    Ok(stream)
+}
+
+#[test]
+fn ten_thousand_messages_are_taken(rt: HostRuntime) -> Result<(), Fail> {
+    let alloc = rt.alloc();
+    let stream = jumps(alloc, 9998)?;
+    let mut ins = MemInputs::new(alloc, 4096);
+    ins.add("i", &[0x6f, 0x00, 0x00, 0x00])?;
+    ins.add("s", &stream)?;
+    let accepted = "ACCEPT messages=10000 retired=9998 operations=0\n";
+    let words = "check i s --flat 0x80000000";
+    expect_line(&rt, alloc, words, &mut ins, accepted, 0)
 }

@@ -1,3 +1,5 @@
+//! The runs whose lines were worked out by hand.
+
 use super::support::{Run, expect_all};
 use std::test::Fail;
 

@@ -1,3 +1,5 @@
+//! How a run is made and compared.
+
 ghost use Rattle.std.specs.Prelude.{◌≤◌};
 
 use std::alloc::{AllocError, Global};

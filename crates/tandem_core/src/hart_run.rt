@@ -159,12 +159,11 @@ impl HartRun {
         check_tag(self.last, tag)?;
         let plan = self.hart.plan(image, config);
         check_built(&plan.what)?;
-        let mut hart = self.hart;
-        let effect = hart.finish(&plan, &outside(retire));
+        let effect = self.hart.effect(&plan, &outside(retire));
         let clock = clock_of(&plan.what, &self.clocks);
         check_effect(clock, self.hart.pc(), plan.word, &effect, retire)?;
+        self.hart.commit(&effect);
         self.clocks.advance(&plan.what, retire.rd);
-        self.hart = hart;
         self.last = Some(tag);
         Ok(())
     }
