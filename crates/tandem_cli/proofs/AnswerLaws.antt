@@ -1,5 +1,6 @@
 -- What is answered where no count of faults rose.
-use Rattle.std.proofs.Common.{◌≡◌, ℕ, ◌-◌, ◌^◌, ◌<◌, ◌≤◌, inl, inr, List, refl, sym, ap, subst, ◌∙◌, arith, Option, None, Some}
+use Rattle.std.proofs.Common.{◌≡◌, ℕ, ◌-◌, ◌^◌, ◌<◌, ◌≤◌, inl, inr, List, refl, sym, ap, subst, ◌∙◌, arith}
+use Rattle.std.proofs.Common.{Option, None, Some}
 use Rattle.std.specs.Prelude.{IfSome}
 use Rattle.std.specs.Io.KnownBytes.{Appends}
 use Rattle.std.proofs.KnownBytes.{Appends-nil}
@@ -11,8 +12,10 @@ use Rattle.tandem_cli.specs.declared.outcome.NoVerdict.TheVariants as no_verdict
 use Rattle.tandem_cli.specs.declared.outcome.Outcome.{Outcome}
 use Rattle.tandem_cli.specs.declared.outcome.Outcome.TheVariants as outcome
 use Rattle.tandem_cli.specs.Words.{Asked}
-use Rattle.tandem_cli.specs.Checks.{answer_of, answer_to_file, answer_to_image, answer_to_stream, IsJudged, OutcomeIs, Caused}
-use Rattle.tandem_cli.specs.Answers.{line_for, status_for, Prints, ChecksAs, NoFaultRose, Settled, AnswersUsage, AnswersTo, refused, answered}
+use Rattle.tandem_cli.specs.Checks.{answer_of, answer_to_file, answer_to_image, answer_to_stream, IsJudged}
+use Rattle.tandem_cli.specs.Checks.{OutcomeIs, Caused}
+use Rattle.tandem_cli.specs.Answers.{line_for, status_for, Prints, ChecksAs, NoFaultRose, Settled, AnswersUsage}
+use Rattle.tandem_cli.specs.Answers.{AnswersTo, refused, answered}
 
 -- a count that didn't rise
 not_risen : (before after : ℕ) → after ≤ before → before < 2 ^ 64 - 1 → Rose before after → ⊥
@@ -41,26 +44,36 @@ settled_by : (asked : Asked) (names : List Named) (slots slots' : Slots) (result
     (before after : ℕ) (o : Outcome) → OutcomeIs asked names o slots'.stream.left → Caused o slots slots' →
     NoFaultRose slots slots' before after → result ≡ status_for o → Appends old new (line_for asked o) →
     Settled asked names slots' result old new
-settled_by asked names slots slots' result old new before after (outcome.Unloaded no_image.Missing) is caused quiet status line =
+settled_by asked names slots slots' result old new before after
+    (outcome.Unloaded no_image.Missing) is caused quiet status line =
     settle asked names slots' result old new (outcome.Unloaded no_image.Missing) is status line is
-settled_by asked names slots slots' result old new before after (outcome.Unloaded no_image.Unopened) is caused quiet status line =
+settled_by asked names slots slots' result old new before after
+    (outcome.Unloaded no_image.Unopened) is caused quiet status line =
     absurd (not_risen slots.image.faults slots'.image.faults quiet.image.0 quiet.image.1 caused.0.0)
-settled_by asked names slots slots' result old new before after (outcome.Unloaded no_image.Unread) is caused quiet status line =
+settled_by asked names slots slots' result old new before after
+    (outcome.Unloaded no_image.Unread) is caused quiet status line =
     absurd (not_risen slots.image.faults slots'.image.faults quiet.image.0 quiet.image.1 caused.0.0)
-settled_by asked names slots slots' result old new before after (outcome.Unloaded (no_image.Refused fault)) is caused quiet status line =
+settled_by asked names slots slots' result old new before after
+    (outcome.Unloaded (no_image.Refused fault)) is caused quiet status line =
     settle asked names slots' result old new (outcome.Unloaded (no_image.Refused fault)) is status line is
-settled_by asked names slots slots' result old new before after (outcome.Unloaded no_image.Memory) is caused quiet status line =
+settled_by asked names slots slots' result old new before after
+    (outcome.Unloaded no_image.Memory) is caused quiet status line =
     refused status line
-settled_by asked names slots slots' result old new before after (outcome.Unjudged no_verdict.Missing) is caused quiet status line =
+settled_by asked names slots slots' result old new before after
+    (outcome.Unjudged no_verdict.Missing) is caused quiet status line =
     settle asked names slots' result old new (outcome.Unjudged no_verdict.Missing) is status line is
-settled_by asked names slots slots' result old new before after (outcome.Unjudged no_verdict.Unopened) is caused quiet status line =
+settled_by asked names slots slots' result old new before after
+    (outcome.Unjudged no_verdict.Unopened) is caused quiet status line =
     absurd (not_risen slots.stream.faults slots'.stream.faults quiet.stream.0 quiet.stream.1 caused.0.0)
-settled_by asked names slots slots' result old new before after (outcome.Unjudged no_verdict.Unread) is caused quiet status line =
+settled_by asked names slots slots' result old new before after
+    (outcome.Unjudged no_verdict.Unread) is caused quiet status line =
     absurd (not_risen slots.stream.faults slots'.stream.faults quiet.stream.0 quiet.stream.1 caused.0.0)
-settled_by asked names slots slots' result old new before after (outcome.Unjudged no_verdict.Memory) is caused quiet status line =
+settled_by asked names slots slots' result old new before after
+    (outcome.Unjudged no_verdict.Memory) is caused quiet status line =
     refused status line
 settled_by asked names slots slots' result old new before after (outcome.Judged v) is caused quiet status line =
-    settle asked names slots' result old new (outcome.Judged v) (verdict_is asked names v slots'.stream.left is) status line is
+    settle asked names slots' result old new (outcome.Judged v)
+    (verdict_is asked names v slots'.stream.left is) status line is
 
 settled_prints : (asked : Asked) (names : List Named) (slots slots' : Slots) (result : ℕ) (old new : Option (List ℕ))
     (before after : ℕ) (o : Outcome) → OutcomeIs asked names o slots'.stream.left → Caused o slots slots' →
@@ -76,10 +89,12 @@ pub settled : (asked : Asked) (names : List Named) (slots slots' : Slots) (resul
     (before after : ℕ) → ChecksAs asked (Some names) slots slots' result old new before after →
     NoFaultRose slots slots' before after → Settled asked names slots' result old new
 settled asked names slots slots' result old new before after answers quiet =
-    settled_prints asked names slots slots' result old new before after answers.outcome answers.is answers.caused quiet answers.prints
+    settled_prints asked names slots slots' result old new before after answers.outcome answers.is answers.caused
+    quiet answers.prints
 
 -- the same, where the names are told
-pub settled_told : (asked : Asked) (names : Option (List Named)) (slots slots' : Slots) (result : ℕ) (old new : Option (List ℕ))
+pub settled_told : (asked : Asked) (names : Option (List Named)) (slots slots' : Slots) (result : ℕ)
+    (old new : Option (List ℕ))
     (before after : ℕ) → ChecksAs asked names slots slots' result old new before after →
     IfSome names (λ files. NoFaultRose slots slots' before after → Settled asked files slots' result old new)
 settled_told asked None slots slots' result old new before after answers = tt
@@ -87,7 +102,8 @@ settled_told asked (Some files) slots slots' result old new before after answers
     λ quiet. settled asked files slots slots' result old new before after answers quiet
 
 -- memory was refused before anything was attached
-pub memory_refused : (asked : Asked) (names : Option (List Named)) (slots : Slots) (written : Option (List ℕ)) (faults : ℕ) →
+pub memory_refused : (asked : Asked) (names : Option (List Named)) (slots : Slots) (written : Option (List ℕ))
+    (faults : ℕ) →
     ChecksAs asked names slots slots 7 written written faults faults
 memory_refused asked names slots written faults = record {
   outcome = outcome.Unloaded no_image.Memory;
@@ -110,7 +126,8 @@ answers_to None names slots slots' result old new before after usage same checks
 answers_to (Some a) names slots slots' result old new before after usage same checks = checks a refl
 
 -- the answer to words for which memory was refused
-pub words_refused : (o : Option Asked) (names : Option (List Named)) (slots : Slots) (written : Option (List ℕ)) (faults : ℕ) →
+pub words_refused : (o : Option Asked) (names : Option (List Named)) (slots : Slots) (written : Option (List ℕ))
+    (faults : ℕ) →
     AnswersTo o names slots slots 7 written written faults faults
 words_refused None names slots written faults = (inl (refl, Appends-nil written), refl)
 words_refused (Some a) names slots written faults = memory_refused a names slots written faults

@@ -1,5 +1,7 @@
 -- What the readings of the inputs come to.
-use Rattle.std.proofs.Common.{◌≡◌, ℕ, ◌+◌, ◌-◌, ◌^◌, ◌<◌, ◌≤◌, ◌⊎◌, inl, inr, List, ◌++◌, length, drop, refl, sym, ap, subst, ◌∙◌, arith, Option, None, Some, Result, Ok, Err, append-nil, length-append}
+use Rattle.std.proofs.Common.{◌≡◌, ℕ, ◌+◌, ◌-◌, ◌^◌, ◌<◌, ◌≤◌, ◌⊎◌, inl, inr, List, ◌++◌, length, drop, refl}
+use Rattle.std.proofs.Common.{sym, ap, subst, ◌∙◌, arith, Option, None, Some, Result, Ok, Err, append-nil}
+use Rattle.std.proofs.Common.{length-append}
 use Rattle.std.specs.Prelude.{nat_lt, Bool, true, false, is_some, IfSome, MatchBool}
 use Rattle.std.specs.Io.KnownBytes.{Consumes, Keeps, IsAtEnd}
 use Rattle.std.proofs.Math.Nat.{eq-or-lt_of_le}
@@ -24,13 +26,16 @@ use Rattle.tandem_cli.specs.declared.outcome.Outcome.{Outcome}
 use Rattle.tandem_cli.specs.declared.outcome.Outcome.TheVariants as outcome
 use Rattle.tandem_cli.specs.Options.{Chosen}
 use Rattle.tandem_cli.specs.Words.{Asked}
-use Rattle.tandem_cli.specs.Checks.{meaning_at, meaning_of, answer_of, answer_to_file, answer_to_image, answer_to_stream, IsAccepted, OutcomeIs, ImageIs, StreamCaused, no_image_of, image_read, outcome_judged}
+use Rattle.tandem_cli.specs.Checks.{meaning_at, meaning_of, answer_of, answer_to_file, answer_to_image}
+use Rattle.tandem_cli.specs.Checks.{answer_to_stream, IsAccepted, OutcomeIs, ImageIs, StreamCaused, no_image_of}
+use Rattle.tandem_cli.specs.Checks.{image_read, outcome_judged}
 
 -- ---- an image that was read whole, or as far as one is read
 
 too_large : (bytes : List ℕ) → MOST_FILE_BYTES < length bytes →
     file_fault bytes ≡ Some (image_fault.TooLarge (limit.File (MOST_FILE_BYTES + 1)))
-too_large bytes long = cond-true (nat_lt MOST_FILE_BYTES (length bytes)) _ _ (lt-ltb MOST_FILE_BYTES (length bytes) long)
+too_large bytes long = cond-true (nat_lt MOST_FILE_BYTES (length bytes)) _ _ (lt-ltb MOST_FILE_BYTES
+    (length bytes) long)
 
 refused : (flat : Option ℕ) (options : Chosen) (bytes : List ℕ) → MOST_FILE_BYTES < length bytes →
     meaning_at flat options bytes ≡ Err (image_fault.TooLarge (limit.File (MOST_FILE_BYTES + 1)))
@@ -38,7 +43,8 @@ refused None options bytes long = rw (too_large bytes long) refl
 refused (Some base) options bytes long = rw (too_large bytes long) refl
 
 -- the bytes that were read mean what the whole file means
-pub whole_means : (options : Chosen) (read content : List ℕ) (left : Option (List ℕ)) → Consumes (Some content) left read →
+pub whole_means : (options : Chosen) (read content : List ℕ) (left : Option (List ℕ))
+    → Consumes (Some content) left read →
     (IsAtEnd left ⊎ (length read ≡ MOST_FILE_BYTES + 1)) → meaning_of options read ≡ meaning_of options content
 whole_means options read content None consumed ends = absurd consumed
 whole_means options read content (Some rest) consumed (inl at_end) =
@@ -97,18 +103,21 @@ content_none (Some bytes) e = absurd (cc)
 content_none None e = refl
 
 -- what was attached as the image and read whole
-pub whole_answer : (names : Option (List Named)) (asked : Asked) (found : Bool) (old left left' : Option (List ℕ)) (read : List ℕ)
+pub whole_answer : (names : Option (List Named)) (asked : Asked) (found : Bool) (old left left' : Option (List ℕ))
+    (read : List ℕ)
     (answer : Result ImageOf ImageFault) → found ≡ true →
     IfSome names (λ files. found ≡ is_some (content_of files asked.image)) →
     MatchBool found (IfSome names (λ files. left ≡ content_of files asked.image)) (Keeps old left) →
-    Consumes left left' read → (IsAtEnd left' ⊎ (length read ≡ MOST_FILE_BYTES + 1)) → Reads answer (meaning_of asked.options read) →
+    Consumes left left' read → (IsAtEnd left' ⊎ (length read ≡ MOST_FILE_BYTES + 1))
+    → Reads answer (meaning_of asked.options read) →
     IfSome names (λ files. ImageIs asked files (image_read answer))
 whole_answer None asked found old left left' read answer is_there told holds consumed ends reads = tt
 whole_answer (Some files) asked true old left left' read answer is_there told holds consumed ends reads =
     let content = content_found (content_of files asked.image) told in
     let taken : Consumes (Some content.0) left' read =
     subst (λ (l : Option (List ℕ)). Consumes l left' read) (holds ∙ content.1) consumed in
-    read_is asked files content.0 read answer content.1 (whole_means asked.options read content.0 left' taken ends) reads
+    read_is asked files content.0 read answer content.1
+    (whole_means asked.options read content.0 left' taken ends) reads
 whole_answer (Some files) asked false old left left' read answer is_there told holds consumed ends reads = absurd (cc)
 
 -- ---- the answer on the stream
@@ -122,10 +131,12 @@ missing_stream (Some files) asked image found none told =
     λ accepted.
     ap (λ (found : Option (List ℕ)). answer_to_file asked files found) accepted.file
     ∙ ap (answer_to_image asked files) accepted.meaning
-    ∙ ap (λ (found : Option (List ℕ)). answer_to_stream asked image found) (content_none (content_of files asked.stream) (sym none ∙ told))
+    ∙ ap (λ (found : Option (List ℕ)). answer_to_stream asked image found)
+    (content_none (content_of files asked.stream) (sym none ∙ told))
 
 -- what is answered of a stream that is there
-outcome_is : (names : List Named) (asked : Asked) (image : Loaded) (judged : Result Verdict Unjudged) (stream got : List ℕ)
+outcome_is : (names : List Named) (asked : Asked) (image : Loaded) (judged : Result Verdict Unjudged)
+    (stream got : List ℕ)
     (left : Option (List ℕ)) → content_of names asked.stream ≡ Some stream → Consumes (Some stream) left got →
     JudgedIs image asked.options.limits judged got left → IsAccepted asked names image →
     OutcomeIs asked names (outcome_judged judged) left
@@ -164,7 +175,8 @@ outcome_is names asked image (Err unjudged.Failed) stream got (Some rest) there 
 outcome_is names asked image (Err unjudged.Memory) stream got left there consumed is accepted = (image, accepted)
 
 -- what was attached as the stream and judged
-pub judged_told : (names : Option (List Named)) (asked : Asked) (image : Loaded) (judged : Result Verdict Unjudged) (found : Bool)
+pub judged_told : (names : Option (List Named)) (asked : Asked) (image : Loaded) (judged : Result Verdict Unjudged)
+    (found : Bool)
     (old left left' : Option (List ℕ)) (got : List ℕ) → found ≡ true →
     IfSome names (λ files. found ≡ is_some (content_of files asked.stream)) →
     MatchBool found (IfSome names (λ files. left ≡ content_of files asked.stream)) (Keeps old left) →
@@ -181,15 +193,18 @@ judged_told (Some files) asked image judged false old left left' got is_there to
 -- ---- both together
 
 -- the image and the stream, joined
-pub joined_told : (names names' : Option (List Named)) (asked : Asked) (image : ImageOf) (o : Outcome) (left : Option (List ℕ)) →
+pub joined_told : (names names' : Option (List Named)) (asked : Asked) (image : ImageOf) (o : Outcome)
+    (left : Option (List ℕ)) →
     names' ≡ names → IfSome names (λ files. ImageIs asked files (Ok image)) →
     IfSome names' (λ files. IsAccepted asked files (loaded_of image) → OutcomeIs asked files o left) →
     IfSome names (λ files. OutcomeIs asked files o left)
 joined_told names names' asked image o left same on_image on_stream =
     joined_some names asked image o left on_image
-    (subst (λ (n : Option (List Named)). IfSome n (λ files. IsAccepted asked files (loaded_of image) → OutcomeIs asked files o left)) same on_stream)
+    (subst (λ (n : Option (List Named)). IfSome n (λ files. IsAccepted asked files (loaded_of image)
+    → OutcomeIs asked files o left)) same on_stream)
   where
-    joined_some : (names : Option (List Named)) (asked : Asked) (image : ImageOf) (o : Outcome) (left : Option (List ℕ)) →
+    joined_some : (names : Option (List Named)) (asked : Asked) (image : ImageOf) (o : Outcome)
+        (left : Option (List ℕ)) →
         IfSome names (λ files. ImageIs asked files (Ok image)) →
         IfSome names (λ files. IsAccepted asked files (loaded_of image) → OutcomeIs asked files o left) →
         IfSome names (λ files. OutcomeIs asked files o left)
@@ -199,7 +214,8 @@ joined_told names names' asked image o left same on_image on_stream =
 -- ---- causes
 
 -- a refused file is refused for a fault of its own
-pub never_memory : (fault : ImageFault) (why : ImageFault) → no_image_of fault ≡ no_image.Refused why → why ≡ image_fault.Memory → ⊥
+pub never_memory : (fault : ImageFault) (why : ImageFault) → no_image_of fault ≡ no_image.Refused why
+    → why ≡ image_fault.Memory → ⊥
 never_memory image_fault.NotElf why e m = absurd (cc)
 never_memory image_fault.Class why e m = absurd (cc)
 never_memory image_fault.Kind why e m = absurd (cc)

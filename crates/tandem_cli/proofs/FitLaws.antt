@@ -1,5 +1,7 @@
 -- The options that words spell are fit for a run.
-use Rattle.std.proofs.Common.{◌≡◌, ℕ, zero, suc, ◌+◌, ◌%◌, ◌^◌, ◌≤◌, Bool, true, false, ◌&&◌, List, [], ◌∷◌, nat_le, codes, Option, None, Some, Result, Ok, Err, IfOk, IfSome, All, if◌then◌else◌, refl, sym, subst, arith}
+use Rattle.std.proofs.Common.{◌≡◌, ℕ, zero, suc, ◌+◌, ◌%◌, ◌^◌, ◌≤◌, Bool, true, false, ◌&&◌, List, [], ◌∷◌}
+use Rattle.std.proofs.Common.{nat_le, codes, Option, None, Some, Result, Ok, Err, IfOk, IfSome, All}
+use Rattle.std.proofs.Common.{if◌then◌else◌, refl, sym, subst, arith}
 use Rattle.std.proofs.lemmas.Bool.Decides.{nat_tests}
 use Rattle.std.specs.Bool.{◌==◌}
 use Rattle.std.specs.List.{AllByRecursion, after_first, before_first}
@@ -10,7 +12,9 @@ use Rattle.elf_image.specs.declared.ram.Ram.{Ram}
 use Rattle.tandem_cli.specs.Fits.{IsFit}
 use Rattle.tandem_core.specs.Limits.{HasCeilings}
 use Rattle.tandem_cli.specs.Numbers.{number_spelled}
-use Rattle.tandem_cli.specs.Options.{Chosen, after_comma, all_limits_of, at_most_one, before_comma, chosen_by, chosen_from, chosen_of, flat_at, flats_of, limits_from, limits_of, option_before, option_of, options_of, ram_at, ram_of, rams_of, within}
+use Rattle.tandem_cli.specs.Options.{Chosen, after_comma, all_limits_of, at_most_one, before_comma, chosen_by}
+use Rattle.tandem_cli.specs.Options.{chosen_from, chosen_of, flat_at, flats_of, limits_from, limits_of}
+use Rattle.tandem_cli.specs.Options.{option_before, option_of, options_of, ram_at, ram_of, rams_of, within}
 use Rattle.tandem_cli.specs.Seen.{chosen_seen}
 use Rattle.tandem_cli.specs.declared.chosen.CheckOptions.{CheckOptions}
 use Rattle.tandem_cli.specs.declared.options.CheckOption.{CheckOption}
@@ -24,12 +28,14 @@ OptionFits (RamAt ram) = IsRam ram
 OptionFits (LimitsAre limits) = HasCeilings limits
 
 -- a value under a test
-guarded : {T : Type 0} (P : T → Type 0) (test : Bool) (x : T) → (test ≡ true → P x) → IfSome (if test then Some x else None) P
+guarded : {T : Type 0} (P : T → Type 0) (test : Bool) (x : T) → (test ≡ true → P x)
+    → IfSome (if test then Some x else None) P
 guarded P true x h = h refl
 guarded P false x h = tt
 
 -- one of two
-either : {T : Type 0} (P : T → Type 0) (test : Bool) (x y : Option T) → IfSome x P → IfSome y P → IfSome (if test then x else y) P
+either : {T : Type 0} (P : T → Type 0) (test : Bool) (x y : Option T) → IfSome x P → IfSome y P
+    → IfSome (if test then x else y) P
 either P true x y p q = p
 either P false x y p q = q
 
@@ -74,7 +80,8 @@ mapped_limits None h = tt
 mapped_limits (Some limits) h = h
 
 ram_word_fits : (word : List ℕ) → IfSome (ram_of word) IsRam
-ram_word_fits word = ram_fits (number_spelled (before_first (λ c. c == 58) word)) (number_spelled (after_first (λ c. c == 58) word))
+ram_word_fits word = ram_fits (number_spelled (before_first (λ c. c == 58) word))
+    (number_spelled (after_first (λ c. c == 58) word))
 
 limits_word_fits : (word : List ℕ) → IfSome (limits_of word) HasCeilings
 limits_word_fits word =
@@ -82,7 +89,8 @@ limits_word_fits word =
     let stores = number_spelled (before_comma (after_comma word)) in
     let kept = number_spelled (before_comma (after_comma (after_comma word))) in
     let messages = number_spelled (after_comma (after_comma (after_comma word))) in
-    limits_fit (within 4096 reads) (within 4096 stores) (within 16384 kept) (within 4000000000 messages) (within_fits 4096 reads)
+    limits_fit (within 4096 reads) (within 4096 stores) (within 16384 kept) (within 4000000000 messages)
+    (within_fits 4096 reads)
     (within_fits 4096 stores) (within_fits 16384 kept) (within_fits 4000000000 messages)
 
 option_fits : (name value : List ℕ) → IfSome (option_of name value) OptionFits
@@ -90,7 +98,8 @@ unfolding option_of
 option_fits name value =
     either OptionFits (bytes_eq name (codes "--flat")) _ _ (flat_fits (number_spelled value))
     (either OptionFits (bytes_eq name (codes "--ram")) _ _ (mapped_ram (ram_of value) (ram_word_fits value))
-    (either OptionFits (bytes_eq name (codes "--limits")) _ _ (mapped_limits (limits_of value) (limits_word_fits value)) tt))
+    (either OptionFits (bytes_eq name (codes "--limits")) _ _ (mapped_limits (limits_of value)
+    (limits_word_fits value)) tt))
 
 -- all options are fit
 put_before : (first : Option CheckOption) (more : Option (List CheckOption)) → IfSome first OptionFits
@@ -102,16 +111,19 @@ put_before (Some first) (Some more) p q = (p, q)
 options_fit : (words : List (List ℕ)) → IfSome (options_of words) (AllByRecursion OptionFits)
 options_fit [] = tt
 options_fit (_ ∷ []) = tt
-options_fit (name ∷ value ∷ words) = put_before (option_of name value) (options_of words) (option_fits name value) (options_fit words)
+options_fit (name ∷ value ∷ words) = put_before (option_of name value) (options_of words) (option_fits name value)
+    (options_fit words)
 
-flats_fit : (options : List CheckOption) → AllByRecursion OptionFits options → AllByRecursion (λ base. base % 4 ≡ 0) (flats_of options)
+flats_fit : (options : List CheckOption) → AllByRecursion OptionFits options
+    → AllByRecursion (λ base. base % 4 ≡ 0) (flats_of options)
 unfolding OptionFits
 flats_fit [] h = tt
 flats_fit (FlatAt base ∷ options) h = (h.0, flats_fit options h.1)
 flats_fit (RamAt _ ∷ options) h = flats_fit options h.1
 flats_fit (LimitsAre _ ∷ options) h = flats_fit options h.1
 
-all_limits_fit : (options : List CheckOption) → AllByRecursion OptionFits options → AllByRecursion HasCeilings (all_limits_of options)
+all_limits_fit : (options : List CheckOption) → AllByRecursion OptionFits options
+    → AllByRecursion HasCeilings (all_limits_of options)
 unfolding OptionFits
 all_limits_fit [] h = tt
 all_limits_fit (FlatAt _ ∷ options) h = all_limits_fit options h.1
@@ -129,13 +141,15 @@ rams_fit (FlatAt _ ∷ options) h = rams_fit options h.1
 rams_fit (RamAt ram ∷ options) h = all_front IsRam ram (rams_of options) h.0 (rams_fit options h.1)
 rams_fit (LimitsAre _ ∷ options) h = rams_fit options h.1
 
-one_fits : {T : Type 0} (P : T → Type 0) (xs : List T) → AllByRecursion P xs → IfSome (at_most_one xs) (λ one. IfSome one P)
+one_fits : {T : Type 0} (P : T → Type 0) (xs : List T) → AllByRecursion P xs
+    → IfSome (at_most_one xs) (λ one. IfSome one P)
 one_fits P [] h = tt
 one_fits P (x ∷ []) h = h.0
 one_fits P (_ ∷ _ ∷ _) h = tt
 
 chosen_fit : (flat : Option (Option ℕ)) (rams : List Ram) (limits : Option (Option Limits))
-    → IfSome flat (λ one. IfSome one (λ base. base % 4 ≡ 0)) → All IsRam rams → IfSome limits (λ one. IfSome one HasCeilings)
+    → IfSome flat (λ one. IfSome one (λ base. base % 4 ≡ 0)) → All IsRam rams
+    → IfSome limits (λ one. IfSome one HasCeilings)
     → IfSome (chosen_from flat rams limits) IsFit
 chosen_fit None rams limits f r l = tt
 chosen_fit (Some flat) rams None f r l = tt
@@ -165,7 +179,8 @@ chosen_fits words = by_fit (options_of words) (options_fit words)
 
 -- what stands for it is fit too
 pub seen_fits : {E : Type 0} (found : Result (Option CheckOptions) E) (chosen : Option Chosen) → IfSome chosen IsFit
-    → IfOk found (λ options. option_map chosen_seen options ≡ chosen) → IfOk found (λ options. IfSome options (λ some. IsFit (chosen_seen some)))
+    → IfOk found (λ options. option_map chosen_seen options ≡ chosen)
+    → IfOk found (λ options. IfSome options (λ some. IsFit (chosen_seen some)))
 seen_fits (Err e) chosen fit is = tt
 seen_fits (Ok None) chosen fit is = tt
 seen_fits (Ok (Some options)) chosen fit is = subst (λ (x : Option Chosen). IfSome x IsFit) (sym is) fit

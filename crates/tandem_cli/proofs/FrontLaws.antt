@@ -8,7 +8,8 @@ use Rattle.std.specs.Result.{OnErr}
 use Rattle.tandem_cli.specs.Outcomes.{TakesFront}
 
 -- a front of the first text
-pub front_first : {old new : Option (List ℕ)} {text : List ℕ} (more : List ℕ) → TakesFront old new text → TakesFront old new (text ++ more)
+pub front_first : {old new : Option (List ℕ)} {text : List ℕ} (more : List ℕ) → TakesFront old new text
+    → TakesFront old new (text ++ more)
 front_first {text = text} more front =
     let within = front.within in
     record {
@@ -18,13 +19,15 @@ front_first {text = text} more front =
     }
 
 -- the first text, and a front of the second
-pub front_then : {old mid new : Option (List ℕ)} (text : List ℕ) {more : List ℕ} → Appends old mid text → TakesFront mid new more → TakesFront old new (text ++ more)
+pub front_then : {old mid new : Option (List ℕ)} (text : List ℕ) {more : List ℕ} → Appends old mid text
+    → TakesFront mid new more → TakesFront old new (text ++ more)
 front_then {old} {mid} {new} text {more} took front =
     let within = front.within in
     record {
       put = length text + front.put;
       within = omega (arith, length-append text more);
-      took = rw (take-append-add text more front.put) (Appends-trans old mid new text (take front.put more) took front.took);
+      took = rw (take-append-add text more front.put) (Appends-trans old mid new text
+          (take front.put more) took front.took);
     }
 
 -- a fact that holds holds of an error

@@ -84,8 +84,8 @@ pub record NoFaultRose (slots slots' : Slots) (before after : ℕ) : Type 0 wher
   pub stream : (slots'.stream.faults ≤ slots.stream.faults) × (slots.stream.faults < 2 ^ 64 - 1)
   pub out : (after ≤ before) × (before < 2 ^ 64 - 1)
 
--- The answer where no count rose: memory was refused and nothing is written; or the line and the status of the one answer
--- that the words, the image and the stream have, with just what follows the frame of a verdict left of the stream.
+-- The answer where no count rose: memory was refused and nothing is written; or the line and the status of the one
+-- answer that the words, the image and the stream have, with just what follows the frame of a verdict left of the stream.
 pub data Settled (asked : Asked) (names : List Named) (slots' : Slots) (result : ℕ) (old new : Option (List ℕ))
     : Type 0 where
   refused : result ≡ 7 → Appends old new [] → Settled asked names slots' result old new
@@ -98,7 +98,8 @@ AnswersUsage result old new before after =
     ((result ≡ 7) × Appends old new []) ⊎ Prints usage_line 2 result old new before after
 
 -- the answer to words, by what they ask for
-abbrev pub AnswersTo : Option Asked → Option (List Named) → Slots → Slots → ℕ → Option (List ℕ) → Option (List ℕ) → ℕ → ℕ → Type 0
+abbrev pub AnswersTo : Option Asked → Option (List Named) → Slots → Slots → ℕ → Option (List ℕ) → Option (List ℕ) → ℕ
+    → ℕ → Type 0
 AnswersTo None names slots slots' result old new before after =
     AnswersUsage result old new before after × (slots' ≡ slots)
 AnswersTo (Some a) names slots slots' result old new before after =

@@ -110,8 +110,8 @@ pub record IsReadWhole (image : SlotView) : Type 0 where
   pub attached : image.attached ≡ Some true
   pub ended : image.ended ≡ true
 
--- Why there is no image, by the image's slot. Where it could not be opened the slot stands as it was, and where it could
--- not be read it was found; a file that is refused is so for a fault of its own, never for want of memory.
+-- Why there is no image, by the image's slot. Where it could not be opened the slot stands as it was, and where it
+-- could not be read it was found; a file that is refused is so for a fault of its own, never for want of memory.
 abbrev pub NoImageCaused : NoImage → SlotView → SlotView → Type 0
 NoImageCaused no_image.Missing before after = after.attached ≡ Some false
 NoImageCaused no_image.Unopened before after =

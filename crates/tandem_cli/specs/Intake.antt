@@ -8,7 +8,8 @@ use Rattle.tandem_cli.specs.declared.intake.Whole.TheVariants.{Bytes, Failed, Me
 -- the bytes that were taken are all that was left, or as many of its first bytes as are read at most
 abbrev pub WholeIs : Whole → Option (List ℕ) → Option (List ℕ) → Type 0
 WholeIs (Bytes bytes) left left' =
-    Consumes left left' bytes.items × (length bytes.items ≤ MOST_FILE_BYTES + 1) × (IsAtEnd left' ⊎ (length bytes.items ≡ MOST_FILE_BYTES + 1))
+    Consumes left left' bytes.items × (length bytes.items ≤ MOST_FILE_BYTES + 1) ×
+    (IsAtEnd left' ⊎ (length bytes.items ≡ MOST_FILE_BYTES + 1))
 WholeIs Failed left left' = Unit {0}
 WholeIs Memory left left' = Unit {0}
 

@@ -1,5 +1,6 @@
 -- The options of the command line: a word that names one, and a word with its value.
-use Rattle.std.specs.Prelude.{ℕ, ◌+◌, ◌%◌, ◌^◌, ◌==◌, ◌&&◌, List, [], ◌∷◌, nat_le, codes, Option, None, Some, unwrap_or, if◌then◌else◌}
+use Rattle.std.specs.Prelude.{ℕ, ◌+◌, ◌%◌, ◌^◌, ◌==◌, ◌&&◌, List, [], ◌∷◌, nat_le, codes, Option, None, Some}
+use Rattle.std.specs.Prelude.{unwrap_or, if◌then◌else◌}
 use Rattle.std.specs.List.{before_first, after_first}
 use Rattle.std.specs.Option.{option_and_then, option_map}
 use Rattle.std.specs.Str.{bytes_eq}
@@ -19,11 +20,16 @@ flat_at (Some base) = if base % 4 == 0 then Some (FlatAt base) else None
 abbrev pub ram_at : Option ℕ → Option ℕ → Option Ram
 ram_at None _ = None
 ram_at (Some _) None = None
-ram_at (Some base) (Some size) = if nat_le 1 size && nat_le (base + size) (2 ^ 64) then Some (record { base = base; size = size }) else None
+ram_at (Some base) (Some size) = if nat_le 1 size && nat_le (base + size) (2 ^ 64) then Some (record {
+  base =
+      base;
+  size = size;
+}) else None
 
 -- what `BASE:SIZE` asks for
 abbrev pub ram_of : List ℕ → Option Ram
-ram_of word = ram_at (number_spelled (before_first (λ c. c == 58) word)) (number_spelled (after_first (λ c. c == 58) word))
+ram_of word = ram_at (number_spelled (before_first (λ c. c == 58) word))
+    (number_spelled (after_first (λ c. c == 58) word))
 
 -- a number from 1 to its ceiling
 abbrev pub within : ℕ → Option ℕ → Option ℕ
@@ -39,10 +45,11 @@ limits_from (Some _) (Some _) (Some _) None = None
 limits_from (Some reads) (Some stores) (Some kept) (Some messages) =
     Some (record { reads = reads; stores = stores; kept = kept; messages = messages })
 
--- what stands before the first comma, and behind it
+-- what stands before the first comma
 abbrev pub before_comma : List ℕ → List ℕ
 before_comma word = before_first (λ c. c == 44) word
 
+-- what stands behind it
 abbrev pub after_comma : List ℕ → List ℕ
 after_comma word = after_first (λ c. c == 44) word
 
@@ -112,7 +119,12 @@ pub record Chosen : Type 0 where
 abbrev pub chosen_from : Option (Option ℕ) → List Ram → Option (Option Limits) → Option Chosen
 chosen_from None _ _ = None
 chosen_from (Some _) _ None = None
-chosen_from (Some flat) rams (Some limits) = Some (record { flat = flat; rams = rams; limits = unwrap_or limits ceilings })
+chosen_from (Some flat) rams (Some limits) = Some (record {
+  flat = flat;
+  rams = rams;
+  limits =
+      unwrap_or limits ceilings;
+})
 
 -- at most one flat image and one choice of limits, and any ranges of RAM
 abbrev pub chosen_by : List CheckOption → Option Chosen

@@ -5,7 +5,8 @@ use Rattle.std.specs.Fmt.{decimal}
 use Rattle.std.specs.Io.KnownBytes.{Appends}
 use Rattle.tandem_base.specs.Texts.{newline}
 use Rattle.elf_image.specs.declared.fault.ImageFault.{ImageFault}
-use Rattle.elf_image.specs.declared.fault.ImageFault.TheVariants.{NotElf, Class, Kind, Machine, Headers, Segment, Overlap, TooLarge, Memory}
+use Rattle.elf_image.specs.declared.fault.ImageFault.TheVariants.{NotElf, Class, Kind, Machine, Headers}
+use Rattle.elf_image.specs.declared.fault.ImageFault.TheVariants.{Segment, Overlap, TooLarge, Memory}
 use Rattle.elf_image.specs.declared.fault.TooLarge as excess
 use Rattle.elf_image.specs.declared.fault.TooLarge.TheVariants.{File, Ranges, Sum}
 

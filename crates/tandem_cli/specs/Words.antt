@@ -1,5 +1,6 @@
 -- The words of the commands.
-use Rattle.std.specs.Prelude.{ℕ, ◌==◌, Bool, false, not, ◌&&◌, List, [], ◌∷◌, drop, codes, Option, None, Some, if◌then◌else◌}
+use Rattle.std.specs.Prelude.{ℕ, ◌==◌, Bool, false, not, ◌&&◌, List, [], ◌∷◌, drop, codes, Option, None, Some}
+use Rattle.std.specs.Prelude.{if◌then◌else◌}
 use Rattle.std.specs.Str.{bytes_eq}
 use Rattle.tandem_cli.specs.Options.{Chosen, chosen_of}
 
@@ -28,6 +29,7 @@ pub record Asked : Type 0 where
   pub stream : List ℕ
   pub options : Chosen
 
+-- the names and the options, where both are there
 abbrev pub asked_from : Option Names → Option Chosen → Option Asked
 asked_from None _ = None
 asked_from (Some _) None = None

@@ -6,7 +6,8 @@ ghost use Rattle.std.specs.Option.{option_map};
 ghost use Rattle.std.specs.String.{string_bytes};
 ghost use Rattle.tandem_core.specs.Limits.{ceilings};
 ghost use Rattle.tandem_cli.specs.Numbers.{number_spelled};
-ghost use Rattle.tandem_cli.specs.Options.{flat_at, limits_from, limits_of, option_of, options_of, ram_at, ram_of, within};
+ghost use Rattle.tandem_cli.specs.Options.{flat_at, limits_from, limits_of, option_of, options_of, ram_at};
+ghost use Rattle.tandem_cli.specs.Options.{ram_of, within};
 
 use super::number::number;
 use elf_image::Ram;
@@ -135,7 +136,8 @@ pub fn parse_options(
     alloc: Global,
     words: &[String],
 ) -> Result<Option<Vec<CheckOption>>, AllocError>
-    ensures { IfOk result (λ found. option_map (λ options. options.items) found ≡ options_of (map string_bytes words.now)) }
+    ensures { IfOk result (λ found.
+        option_map (λ options. options.items) found ≡ options_of (map string_bytes words.now)) }
 {
     let mut options = Vec::new(alloc);
     let mut at = 0;

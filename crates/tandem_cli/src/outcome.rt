@@ -60,7 +60,8 @@ pub enum Outcome {
 /// Reads the image whole, and then judges the stream frame by frame.
 pub fn check<I: Inputs>(alloc: Global, asked: &CheckWords, ins: &mut I) -> Outcome
     requires { IsFit (chosen_seen asked.now.options) }
-    ensures outcome { IfSome (I.names ins.old) (λ names. OutcomeIs (asked_seen asked.now) names result (I.slots ins.new).stream.left) }
+    ensures outcome { IfSome (I.names ins.old) (λ names.
+        OutcomeIs (asked_seen asked.now) names result (I.slots ins.new).stream.left) }
     ensures cause { Caused result (I.slots ins.old) (I.slots ins.new) }
     ensures counts { CountsStand (I.slots ins.old) (I.slots ins.new) }
     ensures names { I.names ins.new ≡ I.names ins.old }

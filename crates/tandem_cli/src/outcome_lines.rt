@@ -86,7 +86,8 @@ fn print_text<K: Sink>(text: &[u8], out: &mut K) -> Result<(), Failed>
 // Writes three texts, one behind the other.
 fn print_parts<K: Sink>(front: &[u8], middle: &[u8], back: &[u8], out: &mut K) -> Result<(), Failed>
     ensures ok { OnOk result (Appends (K.written out.old) (K.written out.new) (front.now ++ middle.now ++ back.now)) }
-    ensures err { OnErr result (TakesFront (K.written out.old) (K.written out.new) (front.now ++ middle.now ++ back.now)) }
+    ensures err { OnErr result
+        (TakesFront (K.written out.old) (K.written out.new) (front.now ++ middle.now ++ back.now)) }
     ensures cause { HasCause (K.faults out.old) (K.faults out.new) result }
     ensures count { K.faults out.old ≤ K.faults out.new }
 {
@@ -142,7 +143,8 @@ fn put_numbered(out: &mut [u8], at: usize, text: &[u8], number: u16) -> usize
 // Puts that two segments share an address.
 fn put_overlap(out: &mut [u8], at: usize, first: u16, second: u16) -> usize
     requires { at + 64 ≤ length out.old }
-    ensures puts { Puts at out.old result out.new (codes "IMAGE 7 Overlap " ++ decimal first ++ codes " " ++ decimal second ++ newline) }
+    ensures puts { Puts at out.old result out.new
+        (codes "IMAGE 7 Overlap " ++ decimal first ++ codes " " ++ decimal second ++ newline) }
     ensures bound { result ≤ at + 64 }
 {
     let end = put(out, at, b"IMAGE 7 Overlap ");

@@ -268,7 +268,8 @@ fn prints_outcomes(rt: HostRuntime) -> Result<(), Fail> {
     assert_eq!(rt; print_missing("i", &mut out), Ok(()));
     assert_eq!(rt; print_failed("a b", &mut out), Ok(()));
     let lines =
-        "USAGE tandem check IMAGE STREAM [--flat BASE] [--ram BASE:SIZE]... [--limits R,S,K,M]\nINPUT missing i\nINPUT failed a b\n";
+        "USAGE tandem check IMAGE STREAM [--flat BASE] [--ram BASE:SIZE]... [--limits R,S,K,M]\n\
+         INPUT missing i\nINPUT failed a b\n";
     assert_eq!(rt; out.bytes(), lines.as_bytes());
     let mut cut = MemSink::new(rt.alloc(), 200, 20)?;
     cut.fail_at(2)?;

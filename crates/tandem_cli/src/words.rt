@@ -43,7 +43,8 @@ pub fn parse(alloc: Global, words: &[String]) -> Result<Option<CheckWords<'_>>, 
 // The names of the image and of the stream. None where the words don't begin with
 // `check IMAGE STREAM`.
 fn names(words: &[String]) -> Option<(&str, &str)>
-    ensures { option_map (λ names. record { image = names.0.now; stream = names.1.now }) result ≡ names_of (map string_bytes words.now) }
+    ensures { option_map (λ names. record { image = names.0.now; stream = names.1.now }) result
+        ≡ names_of (map string_bytes words.now) }
 {
     if words.len() < 3 {
         return None;

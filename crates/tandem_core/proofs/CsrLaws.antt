@@ -1,5 +1,6 @@
 -- How the first difference of two lists is found entry by entry.
-use Rattle.std.proofs.Common.{◌≡◌, ℕ, suc, zero, ◌+◌, ◌≤◌, List, [], ◌∷◌, length, drop, refl, None, Some, Ok, Err, sym, ap, ◌∙◌, arith, add-one}
+use Rattle.std.proofs.Common.{◌≡◌, ℕ, suc, zero, ◌+◌, ◌≤◌, List, [], ◌∷◌, length, drop, refl, None, Some, Ok}
+use Rattle.std.proofs.Common.{Err, sym, ap, ◌∙◌, arith, add-one}
 use Rattle.std.specs.Prelude.{slice_get}
 use Rattle.std.proofs.lemmas.List.{drop_all}
 use Rattle.std.specs.declared.option.Option.{Option}
@@ -27,7 +28,8 @@ only_want n (suc k) (w ∷ ws) = only_want n k ws
 
 step : (n k : ℕ) (ws gs : List CsrValue) →
     csr_difference n (drop k ws) (drop k gs)
-    ≡ ◌or_else◌ (csr_entry_fault_of n (slice_get ws k) (slice_get gs k)) (csr_difference (n + 1) (drop (suc k) ws) (drop (suc k) gs))
+    ≡ ◌or_else◌ (csr_entry_fault_of n (slice_get ws k) (slice_get gs k)) (csr_difference (n + 1) (drop (suc k) ws)
+    (drop (suc k) gs))
 step n zero [] [] = refl
 step n (suc k) [] [] = refl
 step n zero [] (g ∷ gs) = refl
@@ -40,11 +42,13 @@ step n (suc k) (w ∷ ws) (g ∷ gs) = step n k ws gs
 -- where entry k is looked at, the answer is its difference, or that of the entries after it
 pub csr_difference-step : (k : ℕ) (ws gs : List CsrValue) →
     csr_difference k (drop k ws) (drop k gs)
-    ≡ ◌or_else◌ (csr_entry_fault_of k (slice_get ws k) (slice_get gs k)) (csr_difference (k + 1) (drop (k + 1) ws) (drop (k + 1) gs))
+    ≡ ◌or_else◌ (csr_entry_fault_of k (slice_get ws k) (slice_get gs k)) (csr_difference (k + 1) (drop (k + 1) ws)
+    (drop (k + 1) gs))
 csr_difference-step k ws gs =
     let e : suc k ≡ k + 1 = omega arith in
     step k k ws gs
-    ∙ ap (λ (n : ℕ). ◌or_else◌ (csr_entry_fault_of k (slice_get ws k) (slice_get gs k)) (csr_difference (k + 1) (drop n ws) (drop n gs))) e
+    ∙ ap (λ (n : ℕ). ◌or_else◌ (csr_entry_fault_of k (slice_get ws k) (slice_get gs k)) (csr_difference (k + 1)
+    (drop n ws) (drop n gs))) e
 
 -- a test that passed found no fault, and one that failed found its fault
 pub passed_ok : (o : Option Fault) (u : Unit {0}) → passed o ≡ Ok u → o ≡ None
@@ -82,4 +86,5 @@ pub csr_ended : (k : ℕ) (ws gs : List CsrValue) →
     csr_difference 0 ws gs ≡ csr_difference k (drop k ws) (drop k gs) → length ws ≤ k → length gs ≤ k →
     csr_difference 0 ws gs ≡ None
 csr_ended k ws gs before wants gots =
-    before ∙ ap (λ xs. csr_difference k xs (drop k gs)) (drop_all k ws wants) ∙ ap (λ xs. csr_difference k [] xs) (drop_all k gs gots)
+    before ∙ ap (λ xs. csr_difference k xs (drop k gs)) (drop_all k ws wants)
+    ∙ ap (λ xs. csr_difference k [] xs) (drop_all k gs gots)

@@ -1,5 +1,6 @@
 -- The frames of messages, and what they decide.
-use Rattle.std.proofs.Common.{◌≡◌, ℕ, ◌+◌, Bool, true, false, List, [], ◌∷◌, ◌++◌, length, refl, sym, ap, ◌∙◌, Option, None, Some, Ok, append_assoc, length-append}
+use Rattle.std.proofs.Common.{◌≡◌, ℕ, ◌+◌, Bool, true, false, List, [], ◌∷◌, ◌++◌, length, refl, sym, ap, ◌∙◌}
+use Rattle.std.proofs.Common.{Option, None, Some, Ok, append_assoc, length-append}
 use Rattle.std.specs.Prelude.{All, if◌then◌else◌}
 use Rattle.std.proofs.lemmas.List.Elements.{All-head, All-tail}
 use Rattle.msg_frames.specs.declared.message.Message.{Message}
@@ -19,7 +20,8 @@ use Rattle.tandem_core.specs.Judging.{IsSpelled, Lacks}
 use Rattle.tandem_core.proofs.JudgeLaws.{judged_after, after_message}
 
 -- a message that ends with no verdict decides nothing
-none_decided : (first : Option Verdict) (ends : Bool) (v : Verdict) → ◌or_else◌ first (if ends then Some v else None) ≡ None →
+none_decided : (first : Option Verdict) (ends : Bool) (v : Verdict)
+    → ◌or_else◌ first (if ends then Some v else None) ≡ None →
     (first ≡ None) × (ends ≡ false)
 none_decided None true v e = absurd (cc)
 none_decided None false v e = (refl, refl)
@@ -46,7 +48,8 @@ pub after_frame : (image : Loaded) (limits : Limits) (before : List Message) (m 
 after_frame image limits before m more spells quiet =
     let parts = quiet_parts image limits before m quiet in
     after_message image limits (frames_of before) (frame m) more before m
-    (cut_message (frame m) more m (whole_frame m spells.fits spells.holds) (reading_frame m spells.fits spells.holds) parts.1)
+    (cut_message (frame m) more m (whole_frame m spells.fits spells.holds)
+    (reading_frame m spells.fits spells.holds) parts.1)
     parts.0
 
 -- the judgement of frames that decide nothing and of what follows them, from there on
@@ -62,12 +65,14 @@ frames_judged image limits (m ∷ before) more spelled quiet =
 -- bytes that decide nothing yet, and what follows them
 pub lacking_judged : (image : Loaded) (limits : Limits) (got more : List ℕ) (lacks : Lacks image limits got) →
     judgement image limits (got ++ more)
-    ≡ judge_from image limits (got ++ more) lacks.before (cut (lacks.part ++ more)).messages (cut (lacks.part ++ more)).ending
+    ≡ judge_from image limits (got ++ more) lacks.before (cut (lacks.part ++ more)).messages
+    (cut (lacks.part ++ more)).ending
 lacking_judged image limits got more lacks =
     let whole = frames_of lacks.before in
     let same : got ++ more ≡ whole ++ (lacks.part ++ more) =
     ap (λ (bytes : List ℕ). bytes ++ more) lacks.is ∙ append_assoc whole lacks.part more in
     ap (λ (bytes : List ℕ). judgement image limits bytes) same
     ∙ frames_judged image limits lacks.before (lacks.part ++ more) lacks.spelled lacks.quiet
-    ∙ ap (λ (bytes : List ℕ). judge_from image limits bytes lacks.before (cut (lacks.part ++ more)).messages (cut (lacks.part ++ more)).ending)
+    ∙ ap (λ (bytes : List ℕ). judge_from image limits bytes lacks.before (cut (lacks.part ++ more)).messages
+    (cut (lacks.part ++ more)).ending)
     (sym same)

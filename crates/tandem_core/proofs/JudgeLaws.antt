@@ -1,5 +1,6 @@
 -- The verdict on a stream, frame by frame.
-use Rattle.std.proofs.Common.{◌≡◌, ℕ, ◌+◌, ◌≤◌, ◌<◌, List, [], ◌∷◌, ◌++◌, length, drop, refl, sym, ap, ◌∙◌, arith, None, Some, append_assoc}
+use Rattle.std.proofs.Common.{◌≡◌, ℕ, ◌+◌, ◌≤◌, ◌<◌, List, [], ◌∷◌, ◌++◌, length, drop, refl, sym, ap, ◌∙◌}
+use Rattle.std.proofs.Common.{arith, None, Some, append_assoc}
 use Rattle.std.specs.declared.option.Option.{Option}
 use Rattle.std.proofs.Math.Seq.{drop-append_seam}
 use Rattle.msg_frames.specs.declared.message.Message.{Message}
@@ -11,7 +12,8 @@ use Rattle.verdict_report.specs.declared.verdict.Verdict.{Verdict}
 use Rattle.verdict_report.specs.declared.verdict.Verdict.TheVariants as verdict
 use Rattle.tandem_core.specs.declared.limits.Limits.{Limits}
 use Rattle.tandem_core.specs.Runs.{offset_of}
-use Rattle.tandem_core.specs.Judgements.{Judgement, first_given, judge_from, decided, accept_of, bad_frame_of, truncated_of}
+use Rattle.tandem_core.specs.Judgements.{Judgement, first_given, judge_from, decided, accept_of, bad_frame_of}
+use Rattle.tandem_core.specs.Judgements.{truncated_of}
 
 -- the verdict where these bytes gave these messages, and those are still to come
 abbrev pub judged_after : Loaded → Limits → List ℕ → List Message → List ℕ → Judgement
@@ -23,7 +25,8 @@ next : (image : Loaded) (limits : Limits) (bytes : List ℕ) (before : List Mess
     judge_from image limits bytes before (m ∷ later) ending ≡ judge_from image limits bytes (m ∷ before) later ending
 unfolding judge_from
 next image limits bytes before m later ending none =
-    ap (λ (d : Option Verdict). first_given d (offset_of (m ∷ before)) (judge_from image limits bytes (m ∷ before) later ending)) none
+    ap (λ (d : Option Verdict). first_given d (offset_of (m ∷ before)) (judge_from image limits bytes
+    (m ∷ before) later ending)) none
 
 -- a message that decides nothing
 pub after_message : (image : Loaded) (limits : Limits) (got front more : List ℕ) (before : List Message) (m : Message) →
@@ -36,12 +39,14 @@ after_message image limits got front more before m cut_is none =
     ∙ ap (λ (bytes : List ℕ). judge_from image limits bytes (m ∷ before) (cut more).messages (cut more).ending)
     (sym (append_assoc got front more))
 
-decides : (image : Loaded) (limits : Limits) (bytes : List ℕ) (before : List Message) (m : Message) (later : List Message)
+decides : (image : Loaded) (limits : Limits) (bytes : List ℕ) (before : List Message) (m : Message)
+    (later : List Message)
     (ending : Ending) (v : Verdict) → decided image limits before m ≡ Some v →
     judge_from image limits bytes before (m ∷ later) ending ≡ record { verdict = v; taken = offset_of (m ∷ before) }
 unfolding judge_from
 decides image limits bytes before m later ending v some =
-    ap (λ (d : Option Verdict). first_given d (offset_of (m ∷ before)) (judge_from image limits bytes (m ∷ before) later ending)) some
+    ap (λ (d : Option Verdict). first_given d (offset_of (m ∷ before)) (judge_from image limits bytes
+    (m ∷ before) later ending)) some
 
 -- a message that decides
 pub after_decision : (image : Loaded) (limits : Limits) (got front more : List ℕ) (before : List Message) (m : Message)
@@ -49,7 +54,8 @@ pub after_decision : (image : Loaded) (limits : Limits) (got front more : List �
     decided image limits before m ≡ Some v →
     judged_after image limits got before (front ++ more) ≡ record { verdict = v; taken = offset_of (m ∷ before) }
 after_decision image limits got front more before m later v cut_is some =
-    ap (λ (ms : List Message). judge_from image limits (got ++ (front ++ more)) before ms (cut (front ++ more)).ending) cut_is
+    ap (λ (ms : List Message). judge_from image limits (got ++ (front ++ more)) before ms
+    (cut (front ++ more)).ending) cut_is
     ∙ decides image limits (got ++ (front ++ more)) before m later (cut (front ++ more)).ending v some
 
 ends : (image : Loaded) (limits : Limits) (bytes : List ℕ) (before : List Message) →
@@ -69,7 +75,11 @@ after_end image limits got front more before m cut_is none =
 
 breaks : (image : Loaded) (limits : Limits) (bytes : List ℕ) (before : List Message) (f : FrameFault) →
     judge_from image limits bytes before [] (Bad f)
-    ≡ record { verdict = verdict.Reject (bad_frame_of before f); taken = offset_of before + needed (drop (offset_of before) bytes) }
+    ≡ record {
+      verdict = verdict.Reject (bad_frame_of before f);
+      taken =
+          offset_of before + needed (drop (offset_of before) bytes);
+    }
 unfolding judge_from
 breaks image limits bytes before f = refl
 

@@ -1,5 +1,7 @@
 -- How far the judging of a source has come, and what each next frame makes of it.
-use Rattle.std.proofs.Common.{◌≡◌, ℕ, ◌+◌, ◌≤◌, ◌<◌, ◌⊎◌, inl, inr, Bool, true, false, List, [], ◌∷◌, ◌++◌, length, refl, sym, ap, ◌∙◌, subst, arith, Option, None, Some, Ok, Err, append_assoc, length-append}
+use Rattle.std.proofs.Common.{◌≡◌, ℕ, ◌+◌, ◌≤◌, ◌<◌, ◌⊎◌, inl, inr, Bool, true, false, List, [], ◌∷◌, ◌++◌}
+use Rattle.std.proofs.Common.{length, refl, sym, ap, ◌∙◌, subst, arith, Option, None, Some, Ok, Err}
+use Rattle.std.proofs.Common.{append_assoc, length-append}
 use Rattle.std.specs.Prelude.{All, if◌then◌else◌}
 use Rattle.std.specs.Io.KnownBytes.{IsAtEnd}
 use Rattle.std.proofs.lemmas.Bool.{cases_Bool}
@@ -20,14 +22,16 @@ use Rattle.tandem_core.specs.declared.core_state.Core.{Core}
 use Rattle.tandem_core.specs.declared.limits.Limits.{Limits}
 use Rattle.tandem_base.specs.FirstFault.{◌or_else◌}
 use Rattle.tandem_core.specs.Runs.{frames_of, offset_of}
-use Rattle.tandem_core.specs.Judgements.{Judgement, judgement, decided, accept_of, verdict_at, bad_frame_of, truncated_of}
+use Rattle.tandem_core.specs.Judgements.{Judgement, judgement, decided, accept_of, verdict_at, bad_frame_of}
+use Rattle.tandem_core.specs.Judgements.{truncated_of}
 use Rattle.tandem_core.specs.Cores.{Stands}
 use Rattle.tandem_core.specs.Judging.{IsSpelled, Decides, Lacks}
 use Rattle.tandem_core.proofs.JudgeLaws.{judged_after, after_decision, after_end, after_bad, after_short}
 use Rattle.tandem_core.proofs.FrameLaws.{frames_size, frames_judged}
 
 -- the core stands for messages whose frames are just what was taken
-pub record Progress (image : Loaded) (limits : Limits) (core : Core) (left left' : Option (List ℕ)) (log log' : Log) : Type 0 where
+pub record Progress (image : Loaded) (limits : Limits) (core : Core) (left left' : Option (List ℕ))
+    (log log' : Log) : Type 0 where
   pub before : List Message
   pub took : Took left left' log log' (frames_of before)
   pub stands : Stands image limits core before
@@ -51,7 +55,8 @@ takes {left} {left'} {left''} {log} {log'} {log''} before front took more =
     Took-trans left left' left'' log log' log'' (frames_of before) front took more
 
 -- a message that ends with no verdict
-pub goes_on : {image : Loaded} {limits : Limits} {core core' : Core} {left left' left'' : Option (List ℕ)} {log log' log'' : Log}
+pub goes_on : {image : Loaded} {limits : Limits} {core core' : Core} {left left' left'' : Option
+    (List ℕ)} {log log' log'' : Log}
     (front : List ℕ) (m : Message) (p : Progress image limits core left left' log log') →
     Took left' left'' log' log'' front → Spells front m → Stands image limits core' (m ∷ p.before) →
     Progress image limits core' left left'' log log''
@@ -65,7 +70,8 @@ goes_on {left = left} {left'' = left''} {log = log} {log'' = log''} front m p to
 }
 
 -- the judgement of all, from what was taken last on
-from_here : {image : Loaded} {limits : Limits} {core : Core} {left left' : Option (List ℕ)} {log log' : Log} (front more : List ℕ)
+from_here : {image : Loaded} {limits : Limits} {core : Core} {left left' : Option (List ℕ)} {log log' : Log}
+    (front more : List ℕ)
     (p : Progress image limits core left left' log log') →
     judgement image limits ((frames_of p.before ++ front) ++ more)
     ≡ judged_after image limits (frames_of p.before) p.before (front ++ more)
@@ -115,13 +121,15 @@ given_at_end {image} {limits} {core} {left} {left'} {left''} {log} {log'} front 
     record {
       verdict = inl (λ more.
           from_here front more p
-          ∙ after_end image limits (frames_of p.before) front more p.before m (cut_end front more m whole reads ends) here
+          ∙ after_end image limits (frames_of p.before) front more p.before m
+          (cut_end front more m whole reads ends) here
           ∙ ap (λ (w : Verdict). at_size w (offset_of (m ∷ p.before))) (sym is)
           ∙ ap (λ (n : ℕ). at_size v n) (sym size));
     }
 
 -- a verdict is that of the message, or of the End
-either_way : (first : Option Verdict) (ends : Bool) (v w : Verdict) → ◌or_else◌ first (if ends then Some w else None) ≡ Some v →
+either_way : (first : Option Verdict) (ends : Bool) (v w : Verdict)
+    → ◌or_else◌ first (if ends then Some w else None) ≡ Some v →
     (first ≡ Some v) ⊎ ((first ≡ None) × (ends ≡ true) × (v ≡ w))
 either_way (Some u) ends v w e = inl e
 either_way None true v w e = inr (refl, refl, cc)
@@ -148,7 +156,8 @@ malformed {image} {limits} {core} {left} {left'} {left''} {log} {log'} front f v
     record {
       verdict = inl (λ more.
           from_here front more p
-          ∙ after_bad image limits (frames_of p.before) front more p.before f (frames_size p.before) (cut_bad front more f whole reads)
+          ∙ after_bad image limits (frames_of p.before) front more p.before f (frames_size p.before)
+          (cut_bad front more f whole reads)
           (needed_front front more (omega arith) ∙ sym whole)
           ∙ ap (λ (w : Verdict). at_size w (offset_of p.before + length front)) (sym is)
           ∙ ap (λ (n : ℕ). at_size v n) (sym (sized p.before front)));

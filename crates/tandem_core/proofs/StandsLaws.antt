@@ -1,5 +1,6 @@
 -- What a core stands for after one message more.
-use Rattle.std.proofs.Common.{◌≡◌, ◌≢◌, ℕ, ◌+◌, ◌<◌, ◌≤◌, length, List, ◌∷◌, Bool, true, false, nat_lt, Option, None, Some, Result, Ok, Err, refl, sym, ap, subst, ◌∙◌, arith}
+use Rattle.std.proofs.Common.{◌≡◌, ◌≢◌, ℕ, ◌+◌, ◌<◌, ◌≤◌, length, List, ◌∷◌, Bool, true, false, nat_lt, Option}
+use Rattle.std.proofs.Common.{None, Some, Result, Ok, Err, refl, sym, ap, subst, ◌∙◌, arith}
 use Rattle.std.specs.Prelude.{if◌then◌else◌, slice_set, slice_index_or, ◌==◌, IfNone, OnOk}
 use Rattle.std.specs.Option.{option_map_or}
 use Rattle.std.proofs.lemmas.List.{get_or-set_same, get_or-set_other}
@@ -20,7 +21,8 @@ use Rattle.tandem_core.specs.declared.core_state.Core.{Core}
 use Rattle.tandem_core.specs.declared.limits.Limits.{Limits}
 use Rattle.tandem_base.specs.FirstFault.{◌or_else◌, passed}
 use Rattle.tandem_core.specs.Retires.{started}
-use Rattle.tandem_core.specs.Runs.{frame_size, is_retire, open_of, config_in, hart_of, run_after, config_of, offset_of, retired_of, message_fault_of}
+use Rattle.tandem_core.specs.Runs.{frame_size, is_retire, open_of, config_in, hart_of, run_after, config_of}
+use Rattle.tandem_core.specs.Runs.{offset_of, retired_of, message_fault_of}
 use Rattle.tandem_core.specs.Judgements.{decided_by, accept_of, verdict_at}
 use Rattle.tandem_core.specs.Cores.{Stands, HasCounted, RunsStand, KeepsCounts, Counts, verdict_by, run_in}
 
@@ -32,7 +34,8 @@ either false x y z chosen other = other refl
 -- the hart of a message is as it says, and the others are as they were
 pub runs_step : (image : Loaded) (limits : Limits) (old new : Core) (before : List Message) (m : Message) →
     Stands image limits old before → m.head.hart < 16 →
-    new.runs ≡ slice_set old.runs m.head.hart (run_after (loaded_of old.image.now) old.config (run_in old m.head.hart) m.head m.body) →
+    new.runs ≡ slice_set old.runs m.head.hart (run_after (loaded_of old.image.now) old.config
+    (run_in old m.head.hart) m.head m.body) →
     RunsStand image new (m ∷ before)
 runs_step image limits old new before m stands known set h below =
     let made = run_after (loaded_of old.image.now) old.config (run_in old m.head.hart) m.head m.body in
@@ -90,14 +93,17 @@ full_or true v later later' e = refl
 full_or false v later later' e = e
 
 -- the verdict by the core's counts is the one that ends with the message
-pub verdict_is : (image : Loaded) (limits : Limits) (old mid : Core) (before : List Message) (m : Message) (f : Option Fault) →
+pub verdict_is : (image : Loaded) (limits : Limits) (old mid : Core) (before : List Message) (m : Message)
+    (f : Option Fault) →
     Stands image limits old before → KeepsCounts old mid → f ≡ message_fault_of image before m →
     verdict_by mid m (passed f) ≡ verdict_at image limits before m
 verdict_is image limits old mid before m (Some f) stands keeps is =
     let count_is : mid.count ≡ length before = keeps.count ∙ stands.count in
     let offset_is : mid.offset ≡ offset_of before = keeps.offset ∙ stands.offset in
-    let first : verdict_by mid m (passed (Some f)) ≡ decided_by limits before m (Some f) = rw (count_is, offset_is) refl in
-    first ∙ ap (λ (g : Option Fault). ◌or_else◌ (decided_by limits before m g) (if is_end m.body then Some (accept_of (m ∷ before)) else None)) is
+    let first : verdict_by mid m (passed (Some f)) ≡ decided_by limits before m (Some f) =
+    rw (count_is, offset_is) refl in
+    first ∙ ap (λ (g : Option Fault). ◌or_else◌ (decided_by limits before m g) (if is_end m.body then Some
+    (accept_of (m ∷ before)) else None)) is
 verdict_is image limits old mid before m None stands keeps is =
     let count_is : mid.count ≡ length before = keeps.count ∙ stands.count in
     let retired_is : mid.retired ≡ retired_of before = keeps.retired ∙ stands.retired in
@@ -111,14 +117,17 @@ verdict_is image limits old mid before m None stands keeps is =
     ≡ decided_by limits before m None = rw (limits_is, count_is) refl in
     parts
     ∙ ap (λ (d : Option Verdict). ◌or_else◌ d (if is_end m.body then Some (accept_of (m ∷ before)) else None)) over_is
-    ∙ ap (λ (g : Option Fault). ◌or_else◌ (decided_by limits before m g) (if is_end m.body then Some (accept_of (m ∷ before)) else None)) is
+    ∙ ap (λ (g : Option Fault). ◌or_else◌ (decided_by limits before m g) (if is_end m.body then Some
+    (accept_of (m ∷ before)) else None)) is
 
 -- a core that stands for messages has counted them
-pub counted : {image : Loaded} {limits : Limits} {core : Core} {before : List Message} → Stands image limits core before → HasCounted core before
+pub counted : {image : Loaded} {limits : Limits} {core : Core} {before : List Message}
+    → Stands image limits core before → HasCounted core before
 counted stands = record { count = stands.count; offset = stands.offset }
 
 -- one message more is counted
-pub counted_on : (old mid new : Core) (before : List Message) (m : Message) → HasCounted old before → KeepsCounts old mid →
+pub counted_on : (old mid new : Core) (before : List Message) (m : Message) → HasCounted old before
+    → KeepsCounts old mid →
     Counts mid new m → HasCounted new (m ∷ before)
 counted_on old mid new before m has keeps counts =
     let count_is : mid.count ≡ length before = keeps.count ∙ has.count in
@@ -146,8 +155,10 @@ stands_on image limits old mid new before m stands keeps runs counts going quiet
       count = omega (arith, counts.count);
       offset = counts.offset ∙ ap (λ (n : ℕ). n + frame_size m) offset_is;
       time = counts.time;
-      harts = counts.harts ∙ ap (λ (n : ℕ). option_map_or (λ (info : OpenInfo). info.harts) (open_of m.body) n) harts_is;
-      config = counts.config ∙ ap (λ (c : Config). option_map_or (λ (info : OpenInfo). config_in info.flags) (open_of m.body) c) config_is;
+      harts = counts.harts ∙ ap (λ (n : ℕ). option_map_or (λ (info : OpenInfo). info.harts)
+          (open_of m.body) n) harts_is;
+      config = counts.config ∙ ap (λ (c : Config). option_map_or (λ (info : OpenInfo). config_in info.flags)
+          (open_of m.body) c) config_is;
       retired = counts.retired ∙ ap (λ (n : ℕ). if is_retire m.body then n + 1 else n) retired_is;
       runs = λ h below.
           ap (λ (xs : List HartRun). slice_index_or xs h (started 0 0)) counts.runs
@@ -188,7 +199,8 @@ keeps_both old mid new a b = record {
 }
 
 -- a message on its way through the core: where it ends with no verdict, the core stands for one message more
-pub advanced : (image : Loaded) (limits : Limits) (old applied concluded new : Core) (before : List Message) (m : Message)
+pub advanced : (image : Loaded) (limits : Limits) (old applied concluded new : Core) (before : List Message)
+    (m : Message)
     (checked : Result (Unit {0}) Fault) → Stands image limits old before → KeepsCounts old applied →
     checked ≡ passed (message_fault_of image before m) → OnOk checked (RunsStand image applied (m ∷ before)) →
     KeepsCounts applied concluded → concluded.runs ≡ applied.runs → Counts concluded new m →
@@ -197,7 +209,8 @@ pub advanced : (image : Loaded) (limits : Limits) (old applied concluded new : C
 advanced image limits old applied concluded new before m checked stands keeps is runs keeps' same counts verdict =
     if_none_from (verdict_at image limits before m) (λ quiet.
     let fine : message_fault_of image before m ≡ None =
-    no_fault limits before m (message_fault_of image before m) (if is_end m.body then Some (accept_of (m ∷ before)) else None) quiet in
+    no_fault limits before m (message_fault_of image before m) (if is_end m.body then Some
+    (accept_of (m ∷ before)) else None) quiet in
     let passes : checked ≡ Ok tt = is ∙ ap (λ (f : Option Fault). passed f) fine in
     let runs_stand : RunsStand image applied (m ∷ before) = on_ok_here checked passes runs in
     stands_on image limits old concluded new before m stands (keeps_both old applied concluded keeps keeps')

@@ -1,5 +1,6 @@
 -- What a core stands for, and its answers.
-use Rattle.std.specs.Prelude.{ℕ, ◌≡◌, ◌+◌, ◌<◌, nat_lt, true, false, Option, Some, None, Result, Ok, Err, if◌then◌else◌, List, ◌∷◌, length, slice_index_or}
+use Rattle.std.specs.Prelude.{ℕ, ◌≡◌, ◌+◌, ◌<◌, nat_lt, true, false, Option, Some, None, Result, Ok, Err}
+use Rattle.std.specs.Prelude.{if◌then◌else◌, List, ◌∷◌, length, slice_index_or}
 use Rattle.std.specs.Option.{option_map_or}
 use Rattle.msg_frames.specs.declared.message.OpenInfo.{OpenInfo}
 use Rattle.msg_frames.specs.declared.message.Message.{Message}
@@ -15,7 +16,8 @@ use Rattle.tandem_core.specs.declared.core_state.Core.{Core}
 use Rattle.tandem_core.specs.declared.fed.Fed.{Fed}
 use Rattle.tandem_core.specs.declared.fed.Fed.TheVariants as fed
 use Rattle.tandem_core.specs.Retires.{started}
-use Rattle.tandem_core.specs.Runs.{frame_size, open_of, is_retire, config_in, harts_of, config_of, last_time, offset_of, retired_of, hart_of}
+use Rattle.tandem_core.specs.Runs.{frame_size, open_of, is_retire, config_in, harts_of, config_of, last_time}
+use Rattle.tandem_core.specs.Runs.{offset_of, retired_of, hart_of}
 use Rattle.tandem_core.specs.Judgements.{IsQuiet}
 
 -- what the core keeps of a hart

@@ -12,8 +12,10 @@ use Rattle.tandem_core.specs.declared.judging.Unjudged.TheVariants as unjudged
 use Rattle.tandem_core.specs.Runs.{frames_of}
 use Rattle.tandem_core.specs.Judgements.{judgement, IsQuiet}
 
--- These bytes give this verdict, and it stands on all of them and on no more: whatever follows, or because nothing does.
-pub record Decides (image : Loaded) (limits : Limits) (got : List ℕ) (left : Option (List ℕ)) (v : Verdict) : Type 0 where
+-- These bytes give this verdict, and it stands on all of them and on no more: whatever follows, or because nothing
+-- does.
+pub record Decides (image : Loaded) (limits : Limits) (got : List ℕ) (left : Option (List ℕ))
+    (v : Verdict) : Type 0 where
   pub verdict : ((more : List ℕ) → judgement image limits (got ++ more) ≡ record { verdict = v; taken = length got })
       ⊎ (IsAtEnd left × (judgement image limits got ≡ record { verdict = v; taken = length got }))
 

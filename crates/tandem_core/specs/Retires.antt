@@ -20,7 +20,8 @@ use Rattle.tandem_core.specs.declared.hart_run.Clocks.{Clocks}
 use Rattle.tandem_core.specs.declared.hart_run.HartRun.{HartRun}
 use Rattle.tandem_base.specs.CsrNumbers as csr
 use Rattle.tandem_base.specs.FirstFault.{◌or_else◌}
-use Rattle.tandem_core.specs.Compares.{tag_fault_of, pc_fault_of, word_fault_of, trap_fault_of, next_fault_of, rd_want_of, rd_fault_of, csr_fault_of}
+use Rattle.tandem_core.specs.Compares.{tag_fault_of, pc_fault_of, word_fault_of, trap_fault_of, next_fault_of}
+use Rattle.tandem_core.specs.Compares.{rd_want_of, rd_fault_of, csr_fault_of}
 
 -- a hart before its first message
 abbrev pub started : ℕ → ℕ → HartRun

@@ -1,6 +1,7 @@
 -- What the messages of a stream say. A list of messages stands with the newest first, so that one more message is put
 -- in front.
-use Rattle.std.specs.Prelude.{ℕ, ◌+◌, ◌/◌, ◌%◌, ◌==◌, nat_lt, Bool, true, false, Some, None, if◌then◌else◌, is_some, List, [], ◌∷◌, ◌++◌, length}
+use Rattle.std.specs.Prelude.{ℕ, ◌+◌, ◌/◌, ◌%◌, ◌==◌, nat_lt, Bool, true, false, Some, None, if◌then◌else◌}
+use Rattle.std.specs.Prelude.{is_some, List, [], ◌∷◌, ◌++◌, length}
 use Rattle.std.specs.declared.option.Option.{Option}
 use Rattle.std.specs.Option.{option_map_or}
 use Rattle.msg_frames.specs.declared.message.Head.{Head}

@@ -2,7 +2,9 @@
 
 ghost use Rattle.std.specs.Prelude.{◌≡◌};
 ghost use Rattle.tandem_base.specs.FirstFault.{passed};
-ghost use Rattle.tandem_core.specs.Compares.{tag_fault_of, pc_fault_of, word_fault_of, trap_fault_of, next_fault_of, rd_want_of, meets, rd_fault_of, csr_entry_fault_of, csr_fault_of};
+ghost use Rattle.tandem_core.specs.Compares.{tag_fault_of, pc_fault_of, word_fault_of, trap_fault_of};
+ghost use Rattle.tandem_core.specs.Compares.{next_fault_of, rd_want_of, meets, rd_fault_of, csr_entry_fault_of};
+ghost use Rattle.tandem_core.specs.Compares.{csr_fault_of};
 
 use msg_frames::{CsrList, CsrValue, RdValue};
 use verdict_report::{Fault, RdWant};

@@ -77,7 +77,8 @@ fn starts(entry: u64) -> [HartRun; 16]
 }
 
 impl<'a> Core<'a> {
-    ghost use Rattle.std.specs.Prelude.{◌≡◌, ◌+◌, ◌<◌, ◌≤◌, ℕ, List, [], ◌∷◌, IfOk, OnOk, OnErr, IfSome, IfNone, None, slice_set, length};
+    ghost use Rattle.std.specs.Prelude.{◌≡◌, ◌+◌, ◌<◌, ◌≤◌, ℕ, List, [], ◌∷◌, IfOk, OnOk, OnErr, IfSome, IfNone};
+    ghost use Rattle.std.specs.Prelude.{None, slice_set, length};
     ghost use Rattle.std.specs.Option.{option_copied};
     ghost use Rattle.msg_frames.specs.declared.message.Message.{Message};
     ghost use Rattle.msg_frames.specs.Frames.{Fits};
@@ -88,7 +89,8 @@ impl<'a> Core<'a> {
     ghost use Rattle.tandem_core.specs.Limits.{HasCeilings};
     ghost use Rattle.tandem_core.specs.Runs.{offset_of, stream_fault_of, body_fault_of, run_after, message_fault_of};
     ghost use Rattle.tandem_core.specs.Judgements.{bad_frame_of, truncated_of, verdict_at};
-    ghost use Rattle.tandem_core.specs.Cores.{Stands, HasCounted, HasEnded, RunsStand, run_in, fed_as, KeepsCounts, verdict_by, Counts};
+    ghost use Rattle.tandem_core.specs.Cores.{Stands, HasCounted, HasEnded, RunsStand, run_in, fed_as};
+    ghost use Rattle.tandem_core.specs.Cores.{KeepsCounts, verdict_by, Counts};
 
     /// A checker of a stream against this image, before the first message.
     pub fn start(_alloc: Global, image: &'a Image, limits: &Limits) -> Core<'a>
@@ -161,7 +163,8 @@ impl<'a> Core<'a> {
     fn check_place(&self, message: &Message) -> Result<(), Fault>
         requires { Fits message.now }
         ensures known { OnOk result (message.now.head.hart < 16) }
-        ensures fault { (image : Loaded) (limits : Limits) (before : List Message) → Stands image limits self.now before →
+        ensures fault { (image : Loaded) (limits : Limits) (before : List Message) →
+            Stands image limits self.now before →
             result ≡ passed (stream_fault_of before message.now) }
     {
         let opens = is_open_message(&message.body);
@@ -207,11 +210,13 @@ impl<'a> Core<'a> {
     /// Takes what a message says of its hart, or says what is first wrong with it.
     fn apply(&mut self, message: &Message) -> Result<(), Fault>
         requires { Fits message.now }
-        ensures fault { (image : Loaded) (limits : Limits) (before : List Message) → Stands image limits self.old before →
+        ensures fault { (image : Loaded) (limits : Limits) (before : List Message) →
+            Stands image limits self.old before →
             result ≡ passed (message_fault_of image before message.now) }
         ensures counts { KeepsCounts self.old self.new }
         ensures verdict { self.new.verdict ≡ self.old.verdict }
-        ensures runs { (image : Loaded) (limits : Limits) (before : List Message) → Stands image limits self.old before →
+        ensures runs { (image : Loaded) (limits : Limits) (before : List Message) →
+            Stands image limits self.old before →
             OnOk result (RunsStand image self.new (message.now ∷ before)) }
     {
         let image = self.image;
@@ -281,9 +286,12 @@ impl<'a> Core<'a> {
     pub(crate) fn advance(&mut self, message: &Message) -> Result<(), AllocError>
         requires fits { Fits message.now }
         requires going { self.old.verdict ≡ None }
-        ensures stands { (image : Loaded) (limits : Limits) (before : List Message) → Stands image limits self.old before →
-            OnOk result (IfNone (verdict_at image limits before message.now) (Stands image limits self.new (message.now ∷ before))) }
-        ensures verdict { (image : Loaded) (limits : Limits) (before : List Message) → Stands image limits self.old before →
+        ensures stands { (image : Loaded) (limits : Limits) (before : List Message) →
+            Stands image limits self.old before →
+            OnOk result (IfNone (verdict_at image limits before message.now)
+            (Stands image limits self.new (message.now ∷ before))) }
+        ensures verdict { (image : Loaded) (limits : Limits) (before : List Message) →
+            Stands image limits self.old before →
             OnOk result (self.new.verdict ≡ verdict_at image limits before message.now) }
         ensures counted { (counted : List Message) → HasCounted self.old counted →
             OnOk result (HasCounted self.new (message.now ∷ counted)) }
@@ -300,13 +308,18 @@ impl<'a> Core<'a> {
     /// changed, and the call may be made again.
     pub fn feed(&mut self, message: &Message) -> Result<Fed, AllocError>
         requires { Fits message.now }
-        ensures answer { (image : Loaded) (limits : Limits) (before : List Message) → Stands image limits self.old before →
+        ensures answer { (image : Loaded) (limits : Limits) (before : List Message) →
+            Stands image limits self.old before →
             IfOk result (λ answer. answer ≡ fed_as (verdict_at image limits before message.now)) }
-        ensures stands { (image : Loaded) (limits : Limits) (before : List Message) → Stands image limits self.old before →
-            OnOk result (IfNone (verdict_at image limits before message.now) (Stands image limits self.new (message.now ∷ before))) }
-        ensures ends { (image : Loaded) (limits : Limits) (before : List Message) → Stands image limits self.old before →
+        ensures stands { (image : Loaded) (limits : Limits) (before : List Message) →
+            Stands image limits self.old before →
+            OnOk result (IfNone (verdict_at image limits before message.now)
+            (Stands image limits self.new (message.now ∷ before))) }
+        ensures ends { (image : Loaded) (limits : Limits) (before : List Message) →
+            Stands image limits self.old before →
             OnOk result (IfSome (verdict_at image limits before message.now) (HasEnded self.new)) }
-        ensures counted { (image : Loaded) (limits : Limits) (before : List Message) → Stands image limits self.old before →
+        ensures counted { (image : Loaded) (limits : Limits) (before : List Message) →
+            Stands image limits self.old before →
             OnOk result (HasCounted self.new (message.now ∷ before)) }
         ensures ended { (v : Verdict) → HasEnded self.old v → IfOk result (λ answer. answer ≡ fed_as (Some v)) }
         ensures closed { (v : Verdict) → HasEnded self.old v → self.new ≡ self.old }

@@ -5,7 +5,9 @@ ghost use Rattle.msg_frames.specs.Frames.{FitsTarget};
 ghost use Rattle.rv_step.specs.Plans.{doing_seen};
 ghost use Rattle.elf_image.specs.Images.{loaded_of};
 ghost use Rattle.tandem_base.specs.FirstFault.{passed};
-ghost use Rattle.tandem_core.specs.Retires.{started, outside_of, unbuilt_fault_of, csr_number, clock_read, clocks_after, written_fault_of, difference_of, retire_fault_of, run_retired, poke_fault_of, run_poked};
+ghost use Rattle.tandem_core.specs.Retires.{started, outside_of, unbuilt_fault_of, csr_number, clock_read};
+ghost use Rattle.tandem_core.specs.Retires.{clocks_after, written_fault_of, difference_of, retire_fault_of};
+ghost use Rattle.tandem_core.specs.Retires.{run_retired, poke_fault_of, run_poked};
 
 use super::compare::{
     check_csrs, check_next, check_pc, check_rd, check_tag, check_trap, check_word,

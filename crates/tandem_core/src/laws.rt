@@ -12,5 +12,6 @@ ghost use Rattle.tandem_core.specs.Judging.{Lacks};
 pub fn lacking_goes_on()
     ensures { (image : Loaded) (limits : Limits) (got more : List ℕ) (lacks : Lacks image limits got) →
         judgement image limits (got ++ more)
-        ≡ judge_from image limits (got ++ more) lacks.before (cut (lacks.part ++ more)).messages (cut (lacks.part ++ more)).ending }
+        ≡ judge_from image limits (got ++ more) lacks.before
+        (cut (lacks.part ++ more)).messages (cut (lacks.part ++ more)).ending }
 {}

@@ -1,5 +1,6 @@
 -- The digits of a number in base 16, spelled from the last to the first.
-use Rattle.std.proofs.Common.{◌≡◌, ℕ, zero, suc, ◌+◌, ◌-◌, ◌/◌, ◌%◌, ◌^◌, ◌<◌, ◌≤◌, Bool, true, false, cond, List, ◌∷◌, length, drop, slice_set, refl, sym, ap, ◌∙◌, arith, eq-eqb, eqb}
+use Rattle.std.proofs.Common.{◌≡◌, ℕ, zero, suc, ◌+◌, ◌-◌, ◌/◌, ◌%◌, ◌^◌, ◌<◌, ◌≤◌, Bool, true, false, cond}
+use Rattle.std.proofs.Common.{List, ◌∷◌, length, drop, slice_set, refl, sym, ap, ◌∙◌, arith, eq-eqb, eqb}
 use Rattle.std.proofs.Math.ListN.{drop_of_length-le}
 use Rattle.std.proofs.lemmas.List.{drop-set}
 use Rattle.std.proofs.lemmas.Bool.{ne_eqb}
@@ -18,9 +19,11 @@ onto_none n held sized = ap (digits_onto 64 16 false n) (drop_of_length-le held 
 -- one digit more, or the first
 by_test : (k rest : ℕ) (there : List ℕ) (test : Bool) → eqb (rest / 16) 0 ≡ test
     → digits_onto (suc k) 16 false rest there
-    ≡ cond test (digit_glyph false (rest % 16) ∷ there) (digits_onto k 16 false (rest / 16) (digit_glyph false (rest % 16) ∷ there))
+    ≡ cond test (digit_glyph false (rest % 16) ∷ there) (digits_onto k 16 false (rest / 16)
+    (digit_glyph false (rest % 16) ∷ there))
 by_test k rest there test e =
-    ap (λ (b : Bool). cond b (digit_glyph false (rest % 16) ∷ there) (digits_onto k 16 false (rest / 16) (digit_glyph false (rest % 16) ∷ there))) e
+    ap (λ (b : Bool). cond b (digit_glyph false (rest % 16) ∷ there) (digits_onto k 16 false (rest / 16)
+    (digit_glyph false (rest % 16) ∷ there))) e
 
 -- the digit that is put before the others
 put_before : (start digit glyph : ℕ) (held : List ℕ) → 0 < start → start ≤ length held → digit ≡ glyph
@@ -34,22 +37,26 @@ put_before (suc j) digit glyph held low high is =
 
 -- the first digit
 pub onto_last : (start rest digit : ℕ) (held : List ℕ) → 0 < start → start ≤ length held → rest / 16 ≡ 0
-    → digit ≡ digit_glyph false (rest % 16) → drop (start - 1) (slice_set held (start - 1) digit) ≡ onto start rest (drop start held)
+    → digit ≡ digit_glyph false (rest % 16) → drop (start - 1) (slice_set held (start - 1) digit) ≡ onto start rest
+    (drop start held)
 unfolding onto
 onto_last start rest digit held low high none is =
     let e : start + 48 ≡ suc (start + 47) = omega arith in
     put_before start digit _ held low high is
-    ∙ sym (ap (λ k. digits_onto k 16 false rest (drop start held)) e ∙ by_test (start + 47) rest (drop start held) true (eq-eqb _ 0 none))
+    ∙ sym (ap (λ k. digits_onto k 16 false rest (drop start held)) e
+    ∙ by_test (start + 47) rest (drop start held) true (eq-eqb _ 0 none))
 
 -- a digit that others precede
 pub onto_step : (start rest digit : ℕ) (held : List ℕ) → 0 < start → start ≤ length held → (rest / 16 ≡ 0 → ⊥)
     → digit ≡ digit_glyph false (rest % 16)
-    → onto (start - 1) (rest / 16) (drop (start - 1) (slice_set held (start - 1) digit)) ≡ onto start rest (drop start held)
+    → onto (start - 1) (rest / 16) (drop (start - 1) (slice_set held (start - 1) digit)) ≡ onto start rest
+    (drop start held)
 unfolding onto
 onto_step start rest digit held low high more is =
     let e : start + 48 ≡ suc (start - 1 + 48) = omega arith in
     ap (digits_onto (start - 1 + 48) 16 false (rest / 16)) (put_before start digit _ held low high is)
-    ∙ sym (ap (λ k. digits_onto k 16 false rest (drop start held)) e ∙ by_test (start - 1 + 48) rest (drop start held) false (ne_eqb _ 0 more))
+    ∙ sym (ap (λ k. digits_onto k 16 false rest (drop start held)) e
+    ∙ by_test (start - 1 + 48) rest (drop start held) false (ne_eqb _ 0 more))
 
 -- the number that is left has as many digits as there is room for
 pub rest_small : (start rest : ℕ) → 0 < start → rest < 16 ^ start → rest / 16 < 16 ^ (start - 1)

@@ -1,7 +1,9 @@
 -- The number and the name of each fault.
 use Rattle.std.specs.Prelude.{ℕ, List, codes}
 use Rattle.verdict_report.specs.declared.fault.Fault.{Fault}
-use Rattle.verdict_report.specs.declared.fault.Fault.TheVariants.{BadFrame, Truncated, BadOpen, BadHart, TimeBack, LatePoke, TagOrder, Pc, Word, Trap, NextPc, Rd, Csr, Unbuilt}
+use Rattle.verdict_report.specs.declared.fault.Fault.TheVariants.{BadFrame, Truncated, BadOpen, BadHart}
+use Rattle.verdict_report.specs.declared.fault.Fault.TheVariants.{TimeBack, LatePoke, TagOrder, Pc, Word, Trap}
+use Rattle.verdict_report.specs.declared.fault.Fault.TheVariants.{NextPc, Rd, Csr, Unbuilt}
 
 -- the number by which a line tells the fault
 abbrev pub fault_number : Fault → ℕ

@@ -10,7 +10,9 @@ use Rattle.msg_frames.specs.declared.message.RdValue.{RdValue}
 use Rattle.tandem_base.specs.Texts.{newline}
 use Rattle.verdict_report.specs.Faults.{fault_number, fault_name}
 use Rattle.verdict_report.specs.declared.fault.Fault.{Fault}
-use Rattle.verdict_report.specs.declared.fault.Fault.TheVariants.{BadFrame, Truncated, BadOpen, BadHart, TimeBack, LatePoke, TagOrder, Pc, Word, Trap, NextPc, Rd, Csr, Unbuilt}
+use Rattle.verdict_report.specs.declared.fault.Fault.TheVariants.{BadFrame, Truncated, BadOpen, BadHart}
+use Rattle.verdict_report.specs.declared.fault.Fault.TheVariants.{TimeBack, LatePoke, TagOrder, Pc, Word, Trap}
+use Rattle.verdict_report.specs.declared.fault.Fault.TheVariants.{NextPc, Rd, Csr, Unbuilt}
 use Rattle.verdict_report.specs.declared.fault.RdWant.{RdWant}
 use Rattle.verdict_report.specs.declared.fault.RdWant.TheVariants.{Absent, Value, Nonzero, AtLeast}
 use Rattle.verdict_report.specs.declared.verdict.Limit.{Limit}

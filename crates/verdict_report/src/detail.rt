@@ -2,7 +2,8 @@
 
 ghost use Rattle.std.specs.Prelude.{◌≡◌, ◌+◌, ◌≤◌, ◌++◌, codes, length};
 ghost use Rattle.std.specs.Fmt.{decimal};
-ghost use Rattle.verdict_report.specs.Lines.{cause_text, csr_text, detail_of, differ, form_text, rd_text, rd_want_text, register_text};
+ghost use Rattle.verdict_report.specs.Lines.{cause_text, csr_text, detail_of, differ, form_text, rd_text};
+ghost use Rattle.verdict_report.specs.Lines.{rd_want_text, register_text};
 ghost use Rattle.verdict_report.specs.Shown.{shown_text};
 ghost use Rattle.tandem_base.specs.Puts.{Puts};
 

@@ -13,7 +13,8 @@ use tandem_io::{Sink, WriteFailed, write_all};
 /// first `put` bytes of the line.
 pub fn print<K: Sink>(verdict: &Verdict, out: &mut K) -> Result<(), WriteFailed>
     ensures ok { OnOk result (Appends (K.written out.old) (K.written out.new) (line_of verdict.now)) }
-    ensures err { IfErr result (λ failed. Appends (K.written out.old) (K.written out.new) (take failed.put (line_of verdict.now))) }
+    ensures err { IfErr result (λ failed.
+        Appends (K.written out.old) (K.written out.new) (take failed.put (line_of verdict.now))) }
     ensures part { IfErr result (λ failed. failed.put < length (line_of verdict.now)) }
     ensures cause { HasCause (K.faults out.old) (K.faults out.new) result }
     ensures count { K.faults out.old ≤ K.faults out.new }
@@ -26,7 +27,8 @@ pub fn print<K: Sink>(verdict: &Verdict, out: &mut K) -> Result<(), WriteFailed>
 fn print_over<K: Sink>(verdict: &Verdict, text: &mut [u8], out: &mut K) -> Result<(), WriteFailed>
     requires { length text.old ≡ 256 }
     ensures ok { OnOk result (Appends (K.written out.old) (K.written out.new) (line_of verdict.now)) }
-    ensures err { IfErr result (λ failed. Appends (K.written out.old) (K.written out.new) (take failed.put (line_of verdict.now))) }
+    ensures err { IfErr result (λ failed.
+        Appends (K.written out.old) (K.written out.new) (take failed.put (line_of verdict.now))) }
     ensures part { IfErr result (λ failed. failed.put < length (line_of verdict.now)) }
     ensures cause { HasCause (K.faults out.old) (K.faults out.new) result }
     ensures count { K.faults out.old ≤ K.faults out.new }

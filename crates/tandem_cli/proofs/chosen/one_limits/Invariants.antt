@@ -4,4 +4,5 @@ use Rattle.tandem_cli.specs.Options.{at_most_one, all_limits_of}
 use Rattle.tandem_cli.proofs.chosen.one_limits.Given as goal
 
 abbrev pub invariant-loop-option : goal.invariant-loop-option
-invariant-loop-option l = at_most_one (all_limits_of l.options) ≡ at_most_one (option_to_list l.limits ++ all_limits_of (drop l.option-index l.options))
+invariant-loop-option l = at_most_one (all_limits_of l.options) ≡ at_most_one
+    (option_to_list l.limits ++ all_limits_of (drop l.option-index l.options))

@@ -12,4 +12,6 @@ loop-at-preserved c =
     let name = c.index-words-at.result in
     let value = c.index-words-at-in-loop-at.result in
     let spelled = rw (c.as_str.ensures.value, c.as_str-in-loop-at.ensures.value) at c.in-Some.ensures in
-    c.loop-at.invariant ∙ option_read string_bytes c.args.words.now c.loop-at.at name value c.loop-at.options.items c.push.new.self.items c.in-Some.option c.in_ok-push.ensures.items (omega arith) c.index-words-at.is c.index-words-at-in-loop-at.is spelled
+    c.loop-at.invariant ∙ option_read string_bytes c.args.words.now c.loop-at.at name value c.loop-at.options.items
+    c.push.new.self.items c.in-Some.option c.in_ok-push.ensures.items
+    (omega arith) c.index-words-at.is c.index-words-at-in-loop-at.is spelled

@@ -19,7 +19,8 @@ returns-clause-cause g c =
     rw c.stream_outcome.ensures
     (stream_caused c.judge.result (g.I.Inputs.slots c.args.ins.now).stream (g.I.Inputs.slots c.judge.new.src).stream
     (beside.attached_is ∙ attached.attached ∙ ap (λ (b : Bool). Some b) c.in-Ok-true.field-0-test)
-    (λ failed. rose_on (g.I.Inputs.slots c.args.ins.now).stream.faults (g.I.Inputs.slots c.attach.new.self).stream.faults
+    (λ failed. rose_on (g.I.Inputs.slots c.args.ins.now).stream.faults
+    (g.I.Inputs.slots c.attach.new.self).stream.faults
     (g.I.Inputs.slots c.judge.new.src).stream.faults attached.count
     (rw (before.faults_is, after.faults_is) c.judge.ensures.count)
     (rw (before.faults_is, after.faults_is) (c.judge.ensures.cause failed))))

@@ -10,4 +10,5 @@ returns-in_err-print_two-clause-err g c =
 -- the first two texts, and a front of the third
 pub returns-clause-err : goal.returns-clause-err
 returns-clause-err g c =
-    on_err_map c.print_text.result (front_then (c.args.front.now ++ c.args.middle.now) ((c.in_ok-print_two.ensures {u = tt}).ok)) c.print_text.ensures.err
+    on_err_map c.print_text.result (front_then (c.args.front.now ++ c.args.middle.now)
+    ((c.in_ok-print_two.ensures {u = tt}).ok)) c.print_text.ensures.err

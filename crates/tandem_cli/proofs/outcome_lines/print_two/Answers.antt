@@ -9,4 +9,5 @@ returns-in_err-print_text-clause-err g c =
 -- the first text, and a front of the second
 pub returns-clause-err : goal.returns-clause-err
 returns-clause-err g c =
-    on_err_map c.print_text-2.result (front_then c.args.front.now ((c.in_ok-print_text.ensures {u = tt}).ok)) c.print_text-2.ensures.err
+    on_err_map c.print_text-2.result (front_then c.args.front.now
+    ((c.in_ok-print_text.ensures {u = tt}).ok)) c.print_text-2.ensures.err

@@ -8,7 +8,8 @@ use Rattle.tandem_cli.proofs.program.run_words.Goals as goal
 pub returns-in-Ok-clause-words : goal.returns-in-Ok-clause-words
 returns-in-Ok-clause-words g c =
     rw (← (c.in-Ok.ensures {u = tt}), ← c.deref.ensures.value)
-    (answers_to (asked (map string_bytes c.deref.result.now)) (g.I.Inputs.names c.args.ins.now) (g.I.Inputs.slots c.args.ins.now)
+    (answers_to (asked (map string_bytes c.deref.result.now)) (g.I.Inputs.names c.args.ins.now)
+    (g.I.Inputs.slots c.args.ins.now)
     (g.I.Inputs.slots c.run_check.new.ins) c.run_check.result (g.K.Sink.written c.args.out.now)
     (g.K.Sink.written c.run_check.new.out) (g.K.Sink.faults c.args.out.now) (g.K.Sink.faults c.run_check.new.out)
     c.run_check.ensures.usage (λ none. ap (λ i. g.I.Inputs.slots i) (c.run_check.ensures.untouched none))

@@ -9,7 +9,8 @@ use Rattle.tandem_cli.proofs.run.answer_words.Goals as goal
 pub returns-in-Ok-Some-clause-answer : goal.returns-in-Ok-Some-clause-answer
 returns-in-Ok-Some-clause-answer g c =
     λ a is.
-    let both : Some (asked_seen c.in-Ok-Some.asked) ≡ Some a = (rw c.in-Ok-Some.field-0-is at c.in-Ok-Some.ensures.value) ∙ is in
+    let both : Some (asked_seen c.in-Ok-Some.asked) ≡ Some a =
+    (rw c.in-Ok-Some.field-0-is at c.in-Ok-Some.ensures.value) ∙ is in
     let same : asked_seen c.in-Ok-Some.asked ≡ a = cc in
     subst
     (λ (b : Asked). ChecksAs b (g.I.Inputs.names c.args.ins.now) (g.I.Inputs.slots c.args.ins.now)
@@ -26,5 +27,6 @@ returns-in-Ok-Some-clause-answer g c =
 pub returns-in-Err-clause-answer : goal.returns-in-Err-clause-answer
 returns-in-Err-clause-answer g c =
     λ a is.
-    memory_refused a (g.I.Inputs.names c.args.ins.now) (g.I.Inputs.slots c.args.ins.now) (g.K.Sink.written c.args.out.now)
+    memory_refused a (g.I.Inputs.names c.args.ins.now) (g.I.Inputs.slots c.args.ins.now)
+    (g.K.Sink.written c.args.out.now)
     (g.K.Sink.faults c.args.out.now)

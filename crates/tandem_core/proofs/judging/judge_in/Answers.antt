@@ -21,8 +21,10 @@ returns-in-Some-clause-judged g c =
     let next = c.in-Message.ensures {u = tt} in
     let told = next.taken.2 in
     let advanced = c.in-Ok.ensures {u = tt} in
-    let gives : verdict_at (loaded_of c.args.image.now) c.args.limits.now p.before c.next_message_into.new.message ≡ Some c.in-Some.verdict =
-    sym (advanced.verdict (loaded_of c.args.image.now) c.args.limits.now p.before p.stands) ∙ sym c.verdict.ensures ∙ c.in-Some.is in (
+    let gives : verdict_at (loaded_of c.args.image.now) c.args.limits.now p.before c.next_message_into.new.message ≡
+    Some c.in-Some.verdict =
+    sym (advanced.verdict (loaded_of c.args.image.now) c.args.limits.now p.before p.stands) ∙ sym c.verdict.ensures
+    ∙ c.in-Some.is in (
       frames_of p.before ++ next.taken.0,
       takes p.before next.taken.0 p.took next.taken.1,
       given_by next.taken.0 c.next_message_into.new.message c.in-Some.verdict p told.0 told.1 told.2 gives,
@@ -34,8 +36,10 @@ loop-core-preserved g c =
     let next = c.in-Message.ensures {u = tt} in
     let told = next.taken.2 in
     let advanced = c.in-Ok.ensures {u = tt} in
-    let quiet : verdict_at (loaded_of c.args.image.now) c.args.limits.now p.before c.next_message_into.new.message ≡ None =
-    sym (advanced.verdict (loaded_of c.args.image.now) c.args.limits.now p.before p.stands) ∙ sym c.verdict.ensures ∙ c.in-None.is in
+    let quiet : verdict_at (loaded_of c.args.image.now) c.args.limits.now p.before c.next_message_into.new.message ≡
+    None =
+    sym (advanced.verdict (loaded_of c.args.image.now) c.args.limits.now p.before p.stands) ∙ sym c.verdict.ensures
+    ∙ c.in-None.is in
     record {
       progress =
           goes_on next.taken.0 c.next_message_into.new.message p next.taken.1 told.2

@@ -4,4 +4,5 @@ use Rattle.verdict_report.proofs.detail.put_csr.Goals as goal
 
 pub returns-in-Some-clause-puts : goal.returns-in-Some-clause-puts
 returns-in-Some-clause-puts c =
-    puts_as (puts_then (puts_then (rw c.from.ensures at c.put_hexadecimal-end.ensures.puts) c.put-end.ensures) c.put_hexadecimal.ensures.puts) (rw c.in-Some.is refl)
+    puts_as (puts_then (puts_then (rw c.from.ensures at c.put_hexadecimal-end.ensures.puts) c.put-end.ensures)
+    c.put_hexadecimal.ensures.puts) (rw c.in-Some.is refl)

@@ -12,4 +12,5 @@ returns-in-Truncated-clause-puts c =
 
 pub returns-in-Csr-clause-puts : goal.returns-in-Csr-clause-puts
 returns-in-Csr-clause-puts c =
-    puts_as (puts_then (puts_then c.put-end-in-Csr.ensures c.put_decimal-end.ensures.puts) c.put_differing-in-Csr.ensures.puts) (rw c.in-Csr.is refl)
+    puts_as (puts_then (puts_then c.put-end-in-Csr.ensures c.put_decimal-end.ensures.puts)
+    c.put_differing-in-Csr.ensures.puts) (rw c.in-Csr.is refl)

@@ -8,4 +8,5 @@ returns-in-Nonzero-clause-puts c =
 
 pub returns-in-AtLeast-clause-puts : goal.returns-in-AtLeast-clause-puts
 returns-in-AtLeast-clause-puts c =
-    puts_as (puts_then (puts_then c.put_register-end-in-AtLeast.ensures.puts c.put-end.ensures) c.put_hexadecimal.ensures.puts) (rw c.in-AtLeast.is refl)
+    puts_as (puts_then (puts_then c.put_register-end-in-AtLeast.ensures.puts c.put-end.ensures)
+    c.put_hexadecimal.ensures.puts) (rw c.in-AtLeast.is refl)

@@ -4,12 +4,20 @@ use Rattle.verdict_report.proofs.numbers.spell_digits.Goals as goal
 
 pub loop-rest-init : goal.loop-rest-init
 loop-rest-init c =
-    record { low = omega arith; high = omega arith; sized = c.requires; small = omega arith; spelled = onto_none c.args.n c.args.held.now c.requires }
+    record {
+      low = omega arith;
+      high = omega arith;
+      sized = c.requires;
+      small = omega arith;
+      spelled =
+          onto_none c.args.n c.args.held.now c.requires;
+    }
 
 pub returns-then-rest-eq0-clause-spelled : goal.returns-then-rest-eq0-clause-spelled
 returns-then-rest-eq0-clause-spelled c =
     let l = c.loop-rest in
-    onto_last l.start l.rest c.digit.result l.held l.invariant.low (omega arith) c.if-rest-eq0.true c.digit.ensures ∙ l.invariant.spelled
+    onto_last l.start l.rest c.digit.result l.held l.invariant.low (omega arith) c.if-rest-eq0.true c.digit.ensures
+    ∙ l.invariant.spelled
 
 pub loop-rest-preserved : goal.loop-rest-preserved
 loop-rest-preserved c =
@@ -19,5 +27,6 @@ loop-rest-preserved c =
       high = omega arith;
       sized = length-set l.held (l.start - 1) c.digit.result ∙ l.invariant.sized;
       small = rest_small l.start l.rest l.invariant.low l.invariant.small;
-      spelled = onto_step l.start l.rest c.digit.result l.held l.invariant.low (omega arith) c.if-rest-eq0.false c.digit.ensures ∙ l.invariant.spelled;
+      spelled = onto_step l.start l.rest c.digit.result l.held l.invariant.low
+          (omega arith) c.if-rest-eq0.false c.digit.ensures ∙ l.invariant.spelled;
     }

@@ -4,4 +4,5 @@ use Rattle.verdict_report.proofs.text.put_head.Goals as goal
 
 pub returns-in-Some-clause-puts : goal.returns-in-Some-clause-puts
 returns-in-Some-clause-puts c =
-    puts_as (puts_then (puts_then (puts_then c.put-end.ensures c.put_decimal-end.ensures.puts) c.put-end-in-Some.ensures) c.put_decimal.ensures.puts) (rw c.in-Some.is refl)
+    puts_as (puts_then (puts_then (puts_then c.put-end.ensures c.put_decimal-end.ensures.puts)
+    c.put-end-in-Some.ensures) c.put_decimal.ensures.puts) (rw c.in-Some.is refl)

@@ -17,7 +17,9 @@ returns-clause-verdict c =
 pub returns-clause-stands : goal.returns-clause-stands
 returns-clause-stands c =
     λ image limits before stands.
-    advanced image limits c.args.self.now c.apply-checked.new.self c.conclude.new.self c.note.new.self before c.args.message.now
-    c.apply-checked.result stands c.apply-checked.ensures.counts (c.apply-checked.ensures.fault image limits before stands)
+    advanced image limits c.args.self.now c.apply-checked.new.self c.conclude.new.self c.note.new.self before
+    c.args.message.now
+    c.apply-checked.result stands c.apply-checked.ensures.counts
+    (c.apply-checked.ensures.fault image limits before stands)
     (c.apply-checked.ensures.runs image limits before stands) c.conclude.ensures.counts c.conclude.ensures.runs
     c.note.ensures.counts (returns-clause-verdict c image limits before stands)

@@ -12,4 +12,5 @@ effect-effect-requires-clause-planned c = (loaded_of c.args.image.now, c.args.co
 pub effect-effect-requires-clause-loaded : goal.effect-effect-requires-clause-loaded
 effect-effect-requires-clause-loaded c =
     built_is_loaded c.outside.result (doing_seen c.plan-plan.result.what)
-    (passed_ok (unbuilt_fault_of (doing_seen c.plan-plan.result.what)) _ (sym c.check_built.ensures ∙ c.in_ok-check_built.was))
+    (passed_ok (unbuilt_fault_of (doing_seen c.plan-plan.result.what)) _ (sym c.check_built.ensures
+    ∙ c.in_ok-check_built.was))
