@@ -1,0 +1,85 @@
+-- What memory keeps of each byte that was stored to.
+use Rattle.std.specs.Prelude.{ℕ, ◌≡◌, ◌+◌, ◌-◌, ◌/◌, ◌%◌, nat_le, nat_lt, ◌&&◌, List, ◌==◌, Bool, Option, None, Some, is_some, unwrap_or, nat_eq, length, slice_index, slice_index_or, if◌then◌else◌}
+use Rattle.msg_frames.specs.declared.message.Piece.{Piece}
+use Rattle.elf_image.specs.Images.{Loaded}
+use Rattle.tandem_base.specs.Extents.{is_among}
+use Rattle.byte_memory.specs.declared.writer.Cell.{Cell}
+use Rattle.byte_memory.specs.declared.writer.Writer.{Writer}
+use Rattle.byte_memory.specs.declared.line.Line.{Line}
+use Rattle.byte_memory.specs.declared.memory.Memory.{Memory}
+use Rattle.std.specs.Option.{option_and_then}
+use Rattle.indexmap.specs.IndexMap.{get}
+
+-- a byte that was stored to: its value, its last writer, and the last writer of another hart than that one
+pub record Written : Type 0 where
+  pub value : ℕ
+  pub last : Writer
+  pub other : Option Writer
+
+-- the last writer of another hart than that of the new one
+abbrev pub other_than : Writer → Option Written → Option Writer
+other_than writer None = None
+other_than writer (Some was) = if was.last.hart == writer.hart then was.other else Some was.last
+
+-- a byte after one more store to it
+abbrev pub overwritten : Option Written → Writer → ℕ → Written
+overwritten was writer value = record { value = value; last = writer; other = other_than writer was }
+
+-- what is kept of the byte at x after a store of the bytes of a piece from byte `first` up to byte `past`
+abbrev pub after_part : Piece → ℕ → ℕ → Writer → ℕ → Option Written → Option Written
+after_part piece first past writer x was =
+    if is_among (piece.addr + first) (past - first) x then Some (overwritten was writer (slice_index piece.bytes (x - piece.addr))) else was
+
+-- what is kept of the byte at x after a store of a piece
+abbrev pub after_store : Piece → Writer → ℕ → Option Written → Option Written
+after_store piece writer x was =
+    if is_among piece.addr (length piece.bytes) x then Some (overwritten was writer (slice_index piece.bytes (x - piece.addr))) else was
+
+-- byte k of a line with this last writer
+abbrev pub written_by : Line → ℕ → Option Writer → Option Written
+written_by line k None = None
+written_by line k (Some last) = Some (record { value = slice_index line.values k; last = last; other = slice_index_or line.other k None })
+
+-- byte k of a line, None where it was never stored to
+abbrev pub written_in : Line → ℕ → Option Written
+written_in line k = written_by line k (slice_index_or line.last k None)
+
+-- the line of the byte at x, None where it isn't ready
+abbrev pub line_at : Memory → ℕ → Option Line
+line_at memory x = get nat_eq memory.lines (x / 64)
+
+-- the line of the byte at x may be stored to
+abbrev pub is_ready : Memory → ℕ → Bool
+is_ready memory x = is_some (line_at memory x)
+
+-- what memory keeps of the byte at x, None where it was never stored to
+abbrev pub written_at : Memory → ℕ → Option Written
+written_at memory x = option_and_then (λ line. written_in line (x % 64)) (line_at memory x)
+
+-- the cell of a byte with this initial value
+abbrev pub cell_over : ℕ → Option Written → Cell
+cell_over initial None = record { value = initial; last = None; other = None }
+cell_over initial (Some was) = record { value = was.value; last = Some was.last; other = was.other }
+
+-- the initial value of the byte at x: 0 where the image has none
+abbrev pub initial_byte : Loaded → ℕ → ℕ
+initial_byte image x = unwrap_or (image.byte_at x) 0
+
+-- the cell of the byte at x
+abbrev pub cell_at : Memory → Loaded → ℕ → Cell
+cell_at memory image x = cell_over (initial_byte image x) (written_at memory x)
+
+-- the value of a byte with this last writer: its initial value where it has none
+abbrev pub value_over : ℕ → Option Writer → ℕ → ℕ
+value_over initial None value = initial
+value_over initial (Some last) value = value
+
+-- the last writer of a byte that is of another hart than this one
+abbrev pub foreign_writer : ℕ → Option Written → Option Writer
+foreign_writer hart None = None
+foreign_writer hart (Some was) = if was.last.hart == hart then was.other else Some was.last
+
+-- the last writer of another hart than the last one's
+abbrev pub other_writer : Option Written → Option Writer
+other_writer None = None
+other_writer (Some was) = was.other
