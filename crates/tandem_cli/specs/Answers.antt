@@ -85,7 +85,8 @@ pub record NoFaultRose (slots slots' : Slots) (before after : ℕ) : Type 0 wher
   pub out : (after ≤ before) × (before < 2 ^ 64 - 1)
 
 -- The answer where no count rose: memory was refused and nothing is written; or the line and the status of the one
--- answer that the words, the image and the stream have, with just what follows the frame of a verdict left of the stream.
+-- answer that the words, the image and the stream have, with just what follows the frame of a verdict left of the
+-- stream.
 pub data Settled (asked : Asked) (names : List Named) (slots' : Slots) (result : ℕ) (old new : Option (List ℕ))
     : Type 0 where
   refused : result ≡ 7 → Appends old new [] → Settled asked names slots' result old new
