@@ -78,29 +78,33 @@ fn rd_want(last: Option<u64>, rd: Option<RdValue>) -> RdWant
     }
 }
 
-/// Whether what is reported of a register is what is wanted of it.
-fn is_met(want: RdWant, got: Option<RdValue>) -> bool
-    ensures { result ≡ meets want got }
+/// Whether what is reported of a register is what is wanted of it. `last` is the last reported value
+/// of the counter that the instruction reads, None where it reads none.
+fn is_met(last: Option<u64>, rd: &Option<RdValue>, got: &Option<RdValue>) -> bool
+    ensures { result ≡ meets (rd_want_of last rd.now) got.now }
 {
-    match (want, got) {
-        (RdWant::Absent, None) => true,
-        (RdWant::Value(rd), Some(got)) => rd == got,
-        (RdWant::Nonzero(number), Some(got)) => number == got.number && got.value != 0,
-        (RdWant::AtLeast(rd), Some(got)) => rd.number == got.number && rd.value <= got.value,
+    match (rd, got) {
+        (None, None) => true,
+        (Some(rd), Some(got)) => match last {
+            None => *rd == *got,
+            Some(value) => rd.number == got.number && value <= got.value,
+        },
         _ => false,
     }
 }
 
 /// The register that was written, and its value. `last` is the last reported value of the counter
 /// that the instruction reads, None where it reads none.
-pub fn check_rd(last: Option<u64>, rd: Option<RdValue>, got: Option<RdValue>) -> Result<(), Fault>
-    ensures { result ≡ passed (rd_fault_of (rd_want_of last rd) got) }
+pub fn check_rd(last: Option<u64>, rd: &Option<RdValue>, got: &Option<RdValue>) -> Result<(), Fault>
+    ensures { result ≡ passed (rd_fault_of (rd_want_of last rd.now) got.now) }
 {
-    let want = rd_want(last, rd);
-    if is_met(want, got) {
+    if is_met(last, rd, got) {
         Ok(())
     } else {
-        Err(Fault::Rd { want, got })
+        Err(Fault::Rd {
+            want: rd_want(last, *rd),
+            got: *got,
+        })
     }
 }
 

@@ -98,7 +98,7 @@ fn outside(retire: &Retire) -> Outside
 fn check_written(clock: Option<u64>, effect: &Effect, retire: &Retire) -> Result<(), Fault>
     ensures { result ≡ passed (written_fault_of clock effect.now retire.now) }
 {
-    check_rd(clock, effect.rd, retire.rd)?;
+    check_rd(clock, &effect.rd, &retire.rd)?;
     check_csrs(&effect.csrs, &retire.csrs)
 }
 
