@@ -143,7 +143,8 @@ fn long_words_are_taken(rt: HostRuntime) -> Result<(), Fail> {
     let zeros = repeated(alloc, "0", 1000)?;
     let zeros = zeros.as_str();
     let options = format!(in alloc;
-        "check i s --limits {zeros}4096,0x0000000000001000,0x0000000000004000,0x00000000EE6B2800 --flat 0x0000000080000000 --ram {zeros}2415919104:0x0000000000001000"
+        "check i s --limits {zeros}4096,0x0000000000001000,0x0000000000004000,0x00000000EE6B2800 \
+         --flat 0x0000000080000000 --ram {zeros}2415919104:0x0000000000001000"
     )?;
     let words = with_ranges(alloc, options.as_str(), 62)?;
     let mut ins = far_inputs(alloc, "", 4096)?;

@@ -1,5 +1,6 @@
 -- One byte more of a capture.
-use Rattle.std.proofs.Common.{ℕ, suc, ◌≡◌, ◌≢◌, ◌+◌, ◌<◌, ◌≤◌, inl, inr, Bool, true, false, List, Option, None, Some, length, get_or, set, refl, sym, ap, ◌∙◌, subst, arith}
+use Rattle.std.proofs.Common.{ℕ, suc, ◌≡◌, ◌≢◌, ◌+◌, ◌<◌, ◌≤◌, inl, inr, Bool, true, false, List, Option, None}
+use Rattle.std.proofs.Common.{Some, length, get_or, set, refl, sym, ap, ◌∙◌, subst, arith}
 use Rattle.std.proofs.lemmas.Bool.{cases_eq, both_ways}
 use Rattle.std.proofs.lemmas.Bool.Decides.{nat_tests}
 use Rattle.std.proofs.lemmas.List.{get_or-set_same, get_or-set_other}
@@ -13,11 +14,13 @@ use Rattle.byte_memory.specs.Memory.{written_at, foreign_writer, other_writer}
 use Rattle.tandem_base.specs.Places.{comes_before}
 use Rattle.byte_memory.proofs.Positions.{never_itself, not_after, before_it}
 
-pub other_more : (m : Memory) (base k : ℕ) (xs : List (Option Writer)) → k < length xs → ((j : ℕ) → get_or xs j None ≡ other_from m base k j)
+pub other_more : (m : Memory) (base k : ℕ) (xs : List (Option Writer)) → k < length xs
+    → ((j : ℕ) → get_or xs j None ≡ other_from m base k j)
     → (j : ℕ) → get_or (set xs k (other_writer (written_at m (base + k)))) j None ≡ other_from m base (k + 1) j
 other_more m base k xs l so_far j =
     elim (cases_eq j k) [
-      | inl e ↦ subst (λ (i : ℕ). get_or (set xs k (other_writer (written_at m (base + k)))) i None ≡ other_from m base (k + 1) i) (sym e)
+      | inl e ↦ subst (λ (i : ℕ). get_or (set xs k (other_writer (written_at m (base + k)))) i None ≡ other_from m
+          base (k + 1) i) (sym e)
           (get_or-set_same xs k (other_writer (written_at m (base + k))) None l ∙ sym now)
       | inr n ↦ get_or-set_other xs k j (other_writer (written_at m (base + k))) None n ∙ so_far j ∙ sym (elsewhere n)
     ]
@@ -47,16 +50,23 @@ module _ (m : Memory) (h base k : ℕ) where
   wrote_at : ℕ → Option Writer
   wrote_at x = foreign_writer h (written_at m x)
 
-  pub foreign_more : (found : Option Foreign) → IsForeign m h base k found → IsForeign m h base (k + 1) (later_of found (base + k) (foreign_writer h (written_at m (base + k))))
+  pub foreign_more : (found : Option Foreign) → IsForeign m h base k found
+      → IsForeign m h base (k + 1) (later_of found (base + k) (foreign_writer h (written_at m (base + k))))
   foreign_more found so_far = by (foreign_writer h (written_at m (base + k))) refl found so_far
     where
-      by : (w : Option Writer) → foreign_writer h (written_at m (base + k)) ≡ w → (found : Option Foreign) → IsForeign m h base k found → IsForeign m h base (k + 1) (later_of found (base + k) w)
-      by None e None s = λ x i. elim (cases_eq x (base + k)) [ inl q ↦ subst (λ (y : ℕ). foreign_writer h (written_at m y) ≡ None) (sym q) e | inr n ↦ s x (fewer x i n) ]
+      by : (w : Option Writer) → foreign_writer h (written_at m (base + k)) ≡ w → (found : Option Foreign)
+          → IsForeign m h base k found → IsForeign m h base (k + 1) (later_of found (base + k) w)
+      by None e None s = λ x i. elim (cases_eq x (base + k)) [
+        | inl q ↦ subst (λ (y : ℕ). foreign_writer h
+            (written_at m y) ≡ None) (sym q) e
+        | inr n ↦ s x (fewer x i n)
+      ]
       by None e (Some f) s = record {
         inside = more f.at s.inside;
         wrote = s.wrote;
         latest = λ x w i y. elim (cases_eq x (base + k)) [
-          | inl q ↦ let no : None ≡ Some w = sym e ∙ subst (λ (z : ℕ). foreign_writer h (written_at m z) ≡ Some w) q y in cc
+          | inl q ↦ let no : None ≡ Some w = sym e ∙ subst (λ (z : ℕ). foreign_writer h
+              (written_at m z) ≡ Some w) q y in cc
           | inr n ↦ s.latest x w (fewer x i n) y
         ];
         lowest = λ x w i l y. s.lowest x w (under x i (short x f.at s.inside l)) l y;
@@ -65,21 +75,26 @@ module _ (m : Memory) (h base k : ℕ) where
         inside = itself;
         wrote = e;
         latest = λ x v i y. elim (cases_eq x (base + k)) [
-          | inl q ↦ let same : Some w ≡ Some v = sym e ∙ subst (λ (z : ℕ). foreign_writer h (written_at m z) ≡ Some v) q y in
-              subst (λ (z : Writer). comes_before w.place z.place ≡ false) (let r : w ≡ v = cc in r) (never_itself w.place)
+          | inl q ↦ let same : Some w ≡ Some v = sym e
+              ∙ subst (λ (z : ℕ). foreign_writer h (written_at m z) ≡ Some v) q y in
+              subst (λ (z : Writer). comes_before w.place z.place ≡ false) (let r : w ≡ v = cc in
+              r) (never_itself w.place)
           | inr n ↦ let no : None ≡ Some v = sym (s x (fewer x i n)) ∙ y in cc
         ];
         lowest = λ x v i l y. (let no : None ≡ Some v = sym (s x (under x i l)) ∙ y in cc);
       }
       by (Some w) e (Some f) s = at (comes_before f.writer.place w.place) refl
         where
-          at : (b : Bool) → comes_before f.writer.place w.place ≡ b → IsForeign m h base (k + 1) (later_of (Some f) (base + k) (Some w))
+          at : (b : Bool) → comes_before f.writer.place w.place ≡ b
+              → IsForeign m h base (k + 1) (later_of (Some f) (base + k) (Some w))
           at true b = rw b (record {
             inside = itself;
             wrote = e;
             latest = λ x v i y. elim (cases_eq x (base + k)) [
-              | inl q ↦ let same : Some w ≡ Some v = sym e ∙ subst (λ (z : ℕ). foreign_writer h (written_at m z) ≡ Some v) q y in
-                  subst (λ (z : Writer). comes_before w.place z.place ≡ false) (let r : w ≡ v = cc in r) (never_itself w.place)
+              | inl q ↦ let same : Some w ≡ Some v = sym e
+                  ∙ subst (λ (z : ℕ). foreign_writer h (written_at m z) ≡ Some v) q y in
+                  subst (λ (z : Writer). comes_before w.place z.place ≡ false) (let r : w ≡ v = cc in
+                  r) (never_itself w.place)
               | inr n ↦ not_after f.writer.place w.place v.place b (s.latest x v (fewer x i n) y)
             ];
             lowest = λ x v i l y. before_it f.writer.place w.place v.place b (s.latest x v (under x i l) y);
@@ -88,7 +103,8 @@ module _ (m : Memory) (h base k : ℕ) where
             inside = more f.at s.inside;
             wrote = s.wrote;
             latest = λ x v i y. elim (cases_eq x (base + k)) [
-              | inl q ↦ let same : Some w ≡ Some v = sym e ∙ subst (λ (z : ℕ). foreign_writer h (written_at m z) ≡ Some v) q y in
+              | inl q ↦ let same : Some w ≡ Some v = sym e
+                  ∙ subst (λ (z : ℕ). foreign_writer h (written_at m z) ≡ Some v) q y in
                   subst (λ (z : Writer). comes_before f.writer.place z.place ≡ false) (let r : w ≡ v = cc in r) b
               | inr n ↦ s.latest x v (fewer x i n) y
             ];

@@ -1,5 +1,6 @@
 -- What is kept of a byte through the stores to it.
-use Rattle.std.proofs.Common.{ℕ, ◌≡◌, ◌==◌, ◌&&◌, not, inl, inr, Bool, true, false, List, Option, None, Some, refl, sym, ap, ◌∙◌, subst, arith}
+use Rattle.std.proofs.Common.{ℕ, ◌≡◌, ◌==◌, ◌&&◌, not, inl, inr, Bool, true, false, List, Option, None, Some}
+use Rattle.std.proofs.Common.{refl, sym, ap, ◌∙◌, subst, arith}
 use Rattle.std.specs.Option.{option_map}
 use Rattle.std.specs.List.{Contains}
 use Rattle.std.proofs.lemmas.Bool.{both_ways}
@@ -37,9 +38,15 @@ module _ (place : Position) (stores grown : List ByteStore)
   pub left_stays : (was : Option Written) → IsLeft place stores was → IsLeft place grown was
   left_stays None l = latest_same (is_before place) stores grown there back None l
   left_stays (Some w) l =
-      let before : (s : ByteStore) → is_foreign place w.last.hart s.writer ≡ true → is_before place s.writer ≡ true = λ s e. (of_both _ _ e).0 in (
+      let before : (s : ByteStore) → is_foreign place w.last.hart s.writer ≡ true → is_before place s.writer ≡ true =
+      λ s e. (of_both _ _ e).0 in (
         latest_same (is_before place) stores grown there back (Some (record { writer = w.last; value = w.value })) l.0,
-        (l.1.0, l.1.1, latest_same (is_foreign place w.last.hart) stores grown (λ s e. there s (before s e)) (λ s e. back s (before s e)) l.1.0 l.1.2),
+        (
+          l.1.0,
+          l.1.1,
+          latest_same (is_foreign place w.last.hart) stores grown (λ s e. there s (before s e))
+              (λ s e. back s (before s e)) l.1.0 l.1.2,
+        ),
       )
 
 -- the last writer of another hart than h is the last one, or else the last of another hart than its
@@ -71,7 +78,8 @@ module _ (place later : Position) (stores grown : List ByteStore) (new : ByteSto
     gains.there,
     before,
     λ s i p. elim (gains.only s i) [
-      | inl e ↦ subst (λ (z : ByteStore). comes_before new.writer.place z.writer.place ≡ false) (sym e) (never_itself new.writer.place)
+      | inl e ↦ subst (λ (z : ByteStore). comes_before new.writer.place z.writer.place ≡ false) (sym e)
+          (never_itself new.writer.place)
       | inr o ↦ not_before s.writer.place place new.writer.place (all s o) after
     ],
   )
@@ -83,10 +91,12 @@ module _ (place later : Position) (stores grown : List ByteStore) (new : ByteSto
       none n = grind (arith, nat_tests)
 
   -- the latest of another hart, among the older ones
-  others : (o : Option ByteStore) → IsLatest (is_foreign place new.writer.hart) stores o → IsLatest (is_foreign later new.writer.hart) grown o
+  others : (o : Option ByteStore) → IsLatest (is_foreign place new.writer.hart) stores o
+      → IsLatest (is_foreign later new.writer.hart) grown o
   others None l = λ s i. by s i (is_foreign later new.writer.hart s.writer) refl
     where
-      by : (s : ByteStore) → Contains grown s → (b : Bool) → is_foreign later new.writer.hart s.writer ≡ b → is_foreign later new.writer.hart s.writer ≡ false
+      by : (s : ByteStore) → Contains grown s → (b : Bool) → is_foreign later new.writer.hart s.writer ≡ b
+          → is_foreign later new.writer.hart s.writer ≡ false
       by s i false e = e
       by s i true e = absurd (elim (gains.only s i) [
         | inl q ↦ own s q e
@@ -101,9 +111,11 @@ module _ (place later : Position) (stores grown : List ByteStore) (new : ByteSto
     ],
   )
 
-  pub left_grows : (was : Option Written) → IsLeft place stores was → IsLeft later grown (Some (overwritten was new.writer new.value))
+  pub left_grows : (was : Option Written) → IsLeft place stores was
+      → IsLeft later grown (Some (overwritten was new.writer new.value))
   left_grows was l = (newest, at was l)
     where
-      at : (was : Option Written) → IsLeft place stores was → IsLatestWriter (is_foreign later new.writer.hart) grown (other_than new.writer was)
+      at : (was : Option Written) → IsLeft place stores was
+          → IsLatestWriter (is_foreign later new.writer.hart) grown (other_than new.writer was)
       at None l = (None, refl, others None (λ s i. absurd (both_ways _ (l s i) (all s i))))
       at (Some w) l = let f = left_foreign place stores (Some w) new.writer.hart l in (f.0, f.1, others f.0 f.2)

@@ -20,5 +20,6 @@ pub not_before : (a b c : Position) → comes_before a b ≡ true → comes_befo
 not_before a b c e f = grind (arith, nat_tests)
 
 -- a is before b, c isn't, and c is before d: then a is before d
-pub before_past : (a b c d : Position) → comes_before a b ≡ true → comes_before c b ≡ false → comes_before c d ≡ true → comes_before a d ≡ true
+pub before_past : (a b c d : Position) → comes_before a b ≡ true → comes_before c b ≡ false → comes_before c d ≡ true
+    → comes_before a d ≡ true
 before_past a b c d e f g = grind (arith, nat_tests)

@@ -1,5 +1,6 @@
 -- A line of memory, written through its index.
-use Rattle.std.proofs.Common.{ℕ, ◌≡◌, ◌≢◌, ◌/◌, Option, Some, None, slice_get, nat_eq, false, refl, sym, ap, ◌∙◌, subst, arith}
+use Rattle.std.proofs.Common.{ℕ, ◌≡◌, ◌≢◌, ◌/◌, Option, Some, None, slice_get, nat_eq, false, refl, sym, ap}
+use Rattle.std.proofs.Common.{◌∙◌, subst, arith}
 use Rattle.std.specs.Option.{option_map}
 use Rattle.std.proofs.lemmas.Bool.Decides.{nat_tests}
 use Rattle.std.proofs.lemmas.Option.{slice_get-map}
@@ -20,10 +21,12 @@ module _ (m : Memory) (line i r : ℕ) (held new : Line) (unique : IsUnique nat_
   new_line x e = rw e ((updates-with_value_at m.lines i new nat_eq_equiv unique line entry.0 entry.1).1)
 
   pub old_line : (x : ℕ) → x / 64 ≡ line → line_at m x ≡ Some held
-  old_line x e = rw e (entry.2 ∙ sym (value ∙ slice_get-map (λ (p : ℕ × Line). p.1) m.lines.entries i ∙ ap (option_map (λ (p : ℕ × Line). p.1)) entry.1))
+  old_line x e = rw e (entry.2 ∙ sym (value ∙ slice_get-map (λ (p : ℕ × Line). p.1) m.lines.entries i
+      ∙ ap (option_map (λ (p : ℕ × Line). p.1)) entry.1))
 
   pub other_lines : (x : ℕ) → x / 64 ≢ line → line_at written x ≡ line_at m x
-  other_lines x n = (updates-with_value_at m.lines i new nat_eq_equiv unique line entry.0 entry.1).2 (x / 64) (apart line (x / 64) n)
+  other_lines x n = (updates-with_value_at m.lines i new nat_eq_equiv unique line entry.0 entry.1).2 (x / 64)
+      (apart line (x / 64) n)
     where
       apart : (a b : ℕ) → b ≢ a → nat_eq a b ≡ false
       apart a b n = grind (arith, nat_tests)

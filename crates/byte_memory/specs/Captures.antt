@@ -1,5 +1,6 @@
 -- What a report sees of memory.
-use Rattle.std.specs.Prelude.{ℕ, ◌≡◌, ◌⊎◌, ◌+◌, ◌-◌, ◌%◌, ◌<◌, Bool, true, false, nat_lt, ◌==◌, Option, None, Some, slice_index, slice_index_or, if◌then◌else◌}
+use Rattle.std.specs.Prelude.{ℕ, ◌≡◌, ◌⊎◌, ◌+◌, ◌-◌, ◌%◌, ◌<◌, Bool, true, false, nat_lt, ◌==◌, Option, None}
+use Rattle.std.specs.Prelude.{Some, slice_index, slice_index_or, if◌then◌else◌}
 use Rattle.tandem_base.specs.declared.extent.Extent.{Extent}
 use Rattle.elf_image.specs.Images.{Loaded}
 use Rattle.byte_memory.specs.declared.capture.Capture.{Capture}
@@ -56,16 +57,19 @@ pub record IsLatestForeign (memory : Memory) (hart base size : ℕ) (found : For
   pub wrote : foreign_writer hart (written_at memory found.at) ≡ Some found.writer
   pub latest : (x : ℕ) (w : Writer) → is_among base size x ≡ true → foreign_writer hart (written_at memory x) ≡ Some w
       → comes_before found.writer.place w.place ≡ false
-  pub lowest : (x : ℕ) (w : Writer) → is_among base size x ≡ true → x < found.at → foreign_writer hart (written_at memory x) ≡ Some w
+  pub lowest : (x : ℕ) (w : Writer) → is_among base size x ≡ true → x < found.at →
+      foreign_writer hart (written_at memory x) ≡ Some w
       → comes_before w.place found.writer.place ≡ true
 
 -- it is that store, or there is none
 abbrev pub IsForeign : Memory → ℕ → ℕ → ℕ → Option Foreign → Type 0
-IsForeign memory hart base size None = (x : ℕ) → is_among base size x ≡ true → foreign_writer hart (written_at memory x) ≡ None
+IsForeign memory hart base size None = (x : ℕ) → is_among base size x ≡ true →
+    foreign_writer hart (written_at memory x) ≡ None
 IsForeign memory hart base size (Some found) = IsLatestForeign memory hart base size found
 
 -- the later of what was found and one more writer, of the byte at x
 abbrev pub later_of : Option Foreign → ℕ → Option Writer → Option Foreign
 later_of found x None = found
 later_of None x (Some w) = Some (record { at = x; writer = w })
-later_of (Some f) x (Some w) = if comes_before f.writer.place w.place then Some (record { at = x; writer = w }) else Some f
+later_of (Some f) x (Some w) =
+    if comes_before f.writer.place w.place then Some (record { at = x; writer = w }) else Some f

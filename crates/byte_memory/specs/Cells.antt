@@ -17,7 +17,8 @@ abbrev pub IsLatest : (Writer → Bool) → List ByteStore → Option ByteStore 
 IsLatest passes stores None = (s : ByteStore) → Contains stores s → passes s.writer ≡ false
 IsLatest passes stores (Some latest) =
     Contains stores latest × (passes latest.writer ≡ true)
-    × ((s : ByteStore) → Contains stores s → passes s.writer ≡ true → comes_before latest.writer.place s.writer.place ≡ false)
+    × ((s : ByteStore) → Contains stores s → passes s.writer ≡ true → comes_before latest.writer.place s.writer.place
+    ≡ false)
 
 -- a store was performed before a place
 abbrev pub is_before : Position → Writer → Bool
@@ -29,9 +30,11 @@ is_foreign place hart w = comes_before w.place place && not (w.hart == hart)
 
 -- it is the writer of the latest of the stores that pass a test, None where none passes
 abbrev pub IsLatestWriter : (Writer → Bool) → List ByteStore → Option Writer → Type 0
-IsLatestWriter passes stores writer = (latest : Option ByteStore) × (option_map (λ s. s.writer) latest ≡ writer) × IsLatest passes stores latest
+IsLatestWriter passes stores writer = (latest : Option ByteStore) × (option_map (λ s. s.writer) latest ≡ writer)
+    × IsLatest passes stores latest
 
--- what is kept of a byte is what the stores before a place left: the latest of them, and the latest of another hart than its
+-- what is kept of a byte is what the stores before a place left: the latest of them, and the latest of another hart
+-- than its
 abbrev pub IsLeft : Position → List ByteStore → Option Written → Type 0
 IsLeft place stores None = IsLatest (is_before place) stores None
 IsLeft place stores (Some was) =

@@ -1,5 +1,7 @@
 -- What memory keeps of each byte that was stored to.
-use Rattle.std.specs.Prelude.{ℕ, ◌≡◌, ◌+◌, ◌-◌, ◌/◌, ◌%◌, nat_le, nat_lt, ◌&&◌, List, ◌==◌, Bool, Option, None, Some, is_some, unwrap_or, nat_eq, length, slice_index, slice_index_or, if◌then◌else◌}
+use Rattle.std.specs.Prelude.{ℕ, ◌≡◌, ◌+◌, ◌-◌, ◌/◌, ◌%◌, nat_le, nat_lt, ◌&&◌, List, ◌==◌, Bool, Option, None}
+use Rattle.std.specs.Prelude.{Some, is_some, unwrap_or, nat_eq, length, slice_index, slice_index_or}
+use Rattle.std.specs.Prelude.{if◌then◌else◌}
 use Rattle.msg_frames.specs.declared.message.Piece.{Piece}
 use Rattle.elf_image.specs.Images.{Loaded}
 use Rattle.tandem_base.specs.Extents.{is_among}
@@ -28,17 +30,22 @@ overwritten was writer value = record { value = value; last = writer; other = ot
 -- what is kept of the byte at x after a store of the bytes of a piece from byte `first` up to byte `past`
 abbrev pub after_part : Piece → ℕ → ℕ → Writer → ℕ → Option Written → Option Written
 after_part piece first past writer x was =
-    if is_among (piece.addr + first) (past - first) x then Some (overwritten was writer (slice_index piece.bytes (x - piece.addr))) else was
+    if is_among (piece.addr + first) (past - first) x
+    then Some (overwritten was writer (slice_index piece.bytes (x - piece.addr)))
+    else was
 
 -- what is kept of the byte at x after a store of a piece
 abbrev pub after_store : Piece → Writer → ℕ → Option Written → Option Written
 after_store piece writer x was =
-    if is_among piece.addr (length piece.bytes) x then Some (overwritten was writer (slice_index piece.bytes (x - piece.addr))) else was
+    if is_among piece.addr (length piece.bytes) x
+    then Some (overwritten was writer (slice_index piece.bytes (x - piece.addr)))
+    else was
 
 -- byte k of a line with this last writer
 abbrev pub written_by : Line → ℕ → Option Writer → Option Written
 written_by line k None = None
-written_by line k (Some last) = Some (record { value = slice_index line.values k; last = last; other = slice_index_or line.other k None })
+written_by line k (Some last) =
+    Some (record { value = slice_index line.values k; last = last; other = slice_index_or line.other k None })
 
 -- byte k of a line, None where it was never stored to
 abbrev pub written_in : Line → ℕ → Option Written

@@ -1,7 +1,8 @@
 //! What a report saw of memory.
 
 ghost use Rattle.std.specs.Prelude.{◌≡◌, ◌+◌, ◌^◌, ◌<◌, ◌≤◌, ℕ, None, slice_index_or};
-ghost use Rattle.byte_memory.specs.Captures.{IsBlock, IsForeign, block_base, capture_base, capture_size, later_of, other_from};
+ghost use Rattle.byte_memory.specs.Captures.{IsBlock, IsForeign, block_base, capture_base, capture_size};
+ghost use Rattle.byte_memory.specs.Captures.{later_of, other_from};
 
 use crate::memory::Memory;
 use crate::writer::{Cell, Writer};
@@ -77,8 +78,10 @@ impl Capture {
     fn see_bytes(&mut self, memory: &Memory, image: &Image, extent: &Extent)
         ensures place { self.new.place ≡ self.old.place }
         ensures base { self.new.base ≡ self.old.base }
-        ensures value { (k : ℕ) → k < 8 → slice_index self.new.values k ≡ (byte_from memory.now (loaded_of image.now) extent.now.addr extent.now.len k).value }
-        ensures last { (k : ℕ) → k < 8 → slice_index_or self.new.last k None ≡ (byte_from memory.now (loaded_of image.now) extent.now.addr extent.now.len k).last }
+        ensures value { (k : ℕ) → k < 8 → slice_index self.new.values k
+            ≡ (byte_from memory.now (loaded_of image.now) extent.now.addr extent.now.len k).value }
+        ensures last { (k : ℕ) → k < 8 → slice_index_or self.new.last k None
+            ≡ (byte_from memory.now (loaded_of image.now) extent.now.addr extent.now.len k).last }
     {
         for k in 0..8u8 {
             let cell = if k < extent.len {
@@ -114,7 +117,8 @@ impl StoreCapture {
         requires { IsBlock block }
         ensures place { result.seen.place ≡ place }
         ensures seen { Sees memory.now (loaded_of image.now) extent.now result.seen }
-        ensures other { (k : ℕ) → k < 8 → slice_index_or result.other k None ≡ (captured memory.now (loaded_of image.now) extent.now k).other }
+        ensures other { (k : ℕ) → k < 8 → slice_index_or result.other k None
+            ≡ (captured memory.now (loaded_of image.now) extent.now k).other }
         ensures foreign { IsForeign memory.now hart (block_base extent.now.addr block) block result.foreign }
     {
         StoreCapture {
@@ -127,7 +131,8 @@ impl StoreCapture {
 
 /// For each byte of a capture of the extent, the last writer of another hart than its last one's.
 fn others(memory: &Memory, extent: &Extent) -> [Option<Writer>; 8]
-    ensures { (k : ℕ) → k < 8 → slice_index_or result k None ≡ other_from memory.now (capture_base extent.now) (capture_size extent.now) k }
+    ensures { (k : ℕ) → k < 8 → slice_index_or result k None
+        ≡ other_from memory.now (capture_base extent.now) (capture_size extent.now) k }
 {
     let offset = extent.addr % 8;
     let (base, size) = if offset + u64::from(extent.len) <= 8 {

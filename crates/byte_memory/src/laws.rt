@@ -13,7 +13,8 @@ pub fn stores_leave_their_byte()
     ensures { (place later : Position) → (stores grown : List ByteStore) → (new : ByteStore) → Gains stores new grown
         → ((s : ByteStore) → Contains stores s → is_before place s.writer ≡ true)
         → comes_before new.writer.place place ≡ false → comes_before new.writer.place later ≡ true
-        → (was : Option Written) → IsLeft place stores was → IsLeft later grown (Some (overwritten was new.writer new.value)) }
+        → (was : Option Written) → IsLeft place stores was →
+        IsLeft later grown (Some (overwritten was new.writer new.value)) }
 {}
 
 /// What stands before a place is left as it is by every growth at that place or later, so a
@@ -30,6 +31,7 @@ pub fn captures_stay()
 /// hart than its.
 #[tactic(auto, using(crate::proofs::CellLaws::left_foreign))]
 pub fn two_writers_tell_each_last_foreign_one()
-    ensures { (place : Position) → (stores : List ByteStore) → (was : Option Written) → (hart : ℕ) → IsLeft place stores was
+    ensures { (place : Position) → (stores : List ByteStore) → (was : Option Written) → (hart : ℕ) →
+        IsLeft place stores was
         → IsLatestWriter (is_foreign place hart) stores (foreign_writer hart was) }
 {}

@@ -51,7 +51,8 @@ impl Line {
         requires from { line * 64 ≤ piece.now.addr + first }
         requires to { piece.now.addr + past ≤ (line + 1) * 64 }
         requires within { piece.now.addr + length piece.now.bytes ≤ 2 ^ 64 }
-        ensures { (x : ℕ) → x / 64 ≡ line → written_in self.new (x % 64) ≡ after_part piece.now first past writer.now x (written_in self.old (x % 64)) }
+        ensures { (x : ℕ) → x / 64 ≡ line → written_in self.new (x % 64)
+            ≡ after_part piece.now first past writer.now x (written_in self.old (x % 64)) }
     {
         for k in first..past {
             let at = (piece.addr + u64::from(k)) % 64;

@@ -20,12 +20,15 @@ pub struct Memory {
 }
 
 impl Memory {
-    ghost use Rattle.std.specs.Prelude.{◌≡◌, ◌≢◌, ◌+◌, ◌-◌, ◌*◌, ◌/◌, ◌%◌, ◌^◌, ◌<◌, ◌≤◌, ◌==◌, ◌||◌, ℕ, length, slice_index, slice_index_or, option_map, true, false, OnOk, OnErr, IfSome, None, is_some, nat_eq, slice_get, Some, if◌then◌else◌};
+    ghost use Rattle.std.specs.Prelude.{◌≡◌, ◌≢◌, ◌+◌, ◌-◌, ◌*◌, ◌/◌, ◌%◌, ◌^◌, ◌<◌, ◌≤◌, ◌==◌, ◌||◌, ℕ, length};
+    ghost use Rattle.std.specs.Prelude.{slice_index, slice_index_or, option_map, true, false, OnOk, OnErr};
+    ghost use Rattle.std.specs.Prelude.{IfSome, None, is_some, nat_eq, slice_get, Some, if◌then◌else◌};
     ghost use Rattle.elf_image.specs.Images.{loaded_of};
     ghost use Rattle.indexmap.specs.IndexMap.{get};
     ghost use Rattle.tandem_base.specs.Extents.{is_among};
     ghost use Rattle.byte_memory.specs.declared.line.Line.{Line};
-    ghost use Rattle.byte_memory.specs.Memory.{foreign_writer, other_writer, is_ready, line_at, written_at, cell_at, after_part, after_store};
+    ghost use Rattle.byte_memory.specs.Memory.{foreign_writer, other_writer, is_ready, line_at, written_at};
+    ghost use Rattle.byte_memory.specs.Memory.{cell_at, after_part, after_store};
 
     /// Memory that nothing was stored to, with no line ready.
     pub fn new(alloc: Global) -> Memory
@@ -59,7 +62,8 @@ impl Memory {
     /// Stores the bytes of a piece, all of them in lines that are ready.
     pub fn store(&mut self, piece: &Piece, writer: &Writer)
         requires within { piece.now.addr + length piece.now.bytes ≤ 2 ^ 64 }
-        requires ready { (x : ℕ) → is_among piece.now.addr (length piece.now.bytes) x ≡ true → is_ready self.old x ≡ true }
+        requires ready { (x : ℕ) → is_among piece.now.addr (length piece.now.bytes) x ≡ true → is_ready self.old x
+            ≡ true }
         ensures written { (x : ℕ) → written_at self.new x ≡ after_store piece.now writer.now x (written_at self.old x) }
         ensures ready { (x : ℕ) → is_ready self.new x ≡ is_ready self.old x }
     {
@@ -82,7 +86,8 @@ impl Memory {
         requires from { line * 64 ≤ piece.now.addr + first }
         requires to { piece.now.addr + past ≤ (line + 1) * 64 }
         requires within { piece.now.addr + length piece.now.bytes ≤ 2 ^ 64 }
-        ensures there { (x : ℕ) → x / 64 ≡ line → written_at self.new x ≡ after_part piece.now first past writer.now x (written_at self.old x) }
+        ensures there { (x : ℕ) → x / 64 ≡ line → written_at self.new x
+            ≡ after_part piece.now first past writer.now x (written_at self.old x) }
         ensures others { (x : ℕ) → x / 64 ≢ line → line_at self.new x ≡ line_at self.old x }
         ensures ready { (x : ℕ) → is_ready self.new x ≡ is_ready self.old x }
     {
@@ -128,8 +133,10 @@ impl Memory {
         last: &mut [Option<Writer>; 8],
     )
         requires { base % 8 ≡ 0 }
-        ensures value { (k : ℕ) → k < 8 → slice_index values.new k ≡ (cell_at self.now (loaded_of image.now) (base + k)).value }
-        ensures last { (k : ℕ) → k < 8 → slice_index_or last.new k None ≡ (cell_at self.now (loaded_of image.now) (base + k)).last }
+        ensures value { (k : ℕ) → k < 8 → slice_index values.new k
+            ≡ (cell_at self.now (loaded_of image.now) (base + k)).value }
+        ensures last { (k : ℕ) → k < 8 → slice_index_or last.new k None
+            ≡ (cell_at self.now (loaded_of image.now) (base + k)).last }
     {
         self.see_written(base, values, last);
         fill_initial(image, base, values, last);
@@ -138,8 +145,10 @@ impl Memory {
     /// The bytes of an aligned doubleword that were stored to, with their last writers.
     fn see_written(&self, base: u64, values: &mut [u8; 8], last: &mut [Option<Writer>; 8])
         requires { base % 8 ≡ 0 }
-        ensures value { (k : ℕ) → k < 8 → IfSome (written_at self.now (base + k)) (λ was. slice_index values.new k ≡ was.value) }
-        ensures last { (k : ℕ) → k < 8 → slice_index_or last.new k None ≡ option_map (λ was. was.last) (written_at self.now (base + k)) }
+        ensures value { (k : ℕ) → k < 8 → IfSome (written_at self.now (base + k)) (λ was. slice_index values.new k
+            ≡ was.value) }
+        ensures last { (k : ℕ) → k < 8 → slice_index_or last.new k None ≡ option_map
+            (λ was. was.last) (written_at self.now (base + k)) }
     {
         let offset = (base % 64) as usize;
         let line = match self.find(base / 64) {
@@ -184,7 +193,8 @@ impl Memory {
     /// The index of a line among those that are ready.
     fn find(&self, line: u64) -> Option<usize>
         ensures found { is_some result ≡ is_some (get nat_eq self.now.lines line) }
-        ensures entry { IfSome result (λ i. (held : Line) × (slice_get self.now.lines.entries i ≡ Some (line, held)) × (get nat_eq self.now.lines line ≡ Some held)) }
+        ensures entry { IfSome result (λ i. (held : Line) × (slice_get self.now.lines.entries i ≡ Some (line, held))
+            × (get nat_eq self.now.lines line ≡ Some held)) }
     {
         if let Some((recent, _)) = self.lines.get_index(self.recent)
             && *recent == line
@@ -198,7 +208,9 @@ impl Memory {
 /// Gives each byte without a writer its initial value.
 fn fill_initial(image: &Image, base: u64, values: &mut [u8; 8], last: &[Option<Writer>; 8])
     requires { base % 8 ≡ 0 }
-    ensures { (k : ℕ) → k < 8 → slice_index values.new k ≡ value_over (initial_byte (loaded_of image.now) (base + k)) (slice_index_or last.now k None) (slice_index values.old k) }
+    ensures { (k : ℕ) → k < 8 → slice_index values.new k
+        ≡ value_over (initial_byte (loaded_of image.now) (base + k))
+        (slice_index_or last.now k None) (slice_index values.old k) }
 {
     for k in 0..8u8 {
         if last[k as usize].is_none() {

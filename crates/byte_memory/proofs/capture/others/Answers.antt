@@ -9,5 +9,6 @@ loop-k-preserved c = record {
   size = c.loop-k.invariant.size;
   so_far =
       rw (c.other_at.ensures, c.from-in-loop-k.ensures)
-      (other_more c.args.memory.now c.if-offset-from-le8.base.0 c.loop-k.k c.loop-k.other (omega arith) c.loop-k.invariant.so_far);
+      (other_more c.args.memory.now c.if-offset-from-le8.base.0 c.loop-k.k c.loop-k.other
+      (omega arith) c.loop-k.invariant.so_far);
 }

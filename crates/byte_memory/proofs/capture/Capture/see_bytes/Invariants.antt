@@ -7,6 +7,8 @@ abbrev pub invariant-loop-k : goal.invariant-loop-k
 invariant-loop-k l = record {
   place : l.self.place ≡ l.fn.self.place;
   base : l.self.base ≡ l.fn.self.base;
-  value : (j : ℕ) → j < l.k → slice_index l.self.values j ≡ (byte_from l.memory (loaded_of l.image) l.extent.addr l.extent.len j).value;
-  last : (j : ℕ) → j < l.k → slice_index_or l.self.last j None ≡ (byte_from l.memory (loaded_of l.image) l.extent.addr l.extent.len j).last;
+  value : (j : ℕ) → j < l.k → slice_index l.self.values j ≡
+      (byte_from l.memory (loaded_of l.image) l.extent.addr l.extent.len j).value;
+  last : (j : ℕ) → j < l.k → slice_index_or l.self.last j None ≡
+      (byte_from l.memory (loaded_of l.image) l.extent.addr l.extent.len j).last;
 }

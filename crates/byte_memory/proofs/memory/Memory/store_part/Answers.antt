@@ -11,14 +11,18 @@ returns-clause-there c = λ x e.
     let m = c.args.self.now in
     let g = c.in-Some-get_index_mut in
     let at : Option Line → Option Written = option_and_then (λ line. written_in line (x % 64)) in
-    let new = new_line m c.args.line c.in-Some.at c.in-Some.at g.held.now c.store.new.self g.ensures.unique c.in-Some.ensures.entry g.ensures.value x e in
-    let old = old_line m c.args.line c.in-Some.at c.in-Some.at g.held.now c.store.new.self g.ensures.unique c.in-Some.ensures.entry g.ensures.value x e in
-    ap at new ∙ c.store.ensures x e ∙ ap (after_part c.args.piece.now c.args.first c.args.past c.args.writer.now x) (sym (ap at old))
+    let new = new_line m c.args.line c.in-Some.at c.in-Some.at g.held.now c.store.new.self g.ensures.unique
+    c.in-Some.ensures.entry g.ensures.value x e in
+    let old = old_line m c.args.line c.in-Some.at c.in-Some.at g.held.now c.store.new.self g.ensures.unique
+    c.in-Some.ensures.entry g.ensures.value x e in
+    ap at new ∙ c.store.ensures x e ∙ ap (after_part c.args.piece.now c.args.first c.args.past c.args.writer.now x)
+    (sym (ap at old))
 
 pub returns-clause-others : goal.returns-clause-others
 returns-clause-others c =
     let g = c.in-Some-get_index_mut in
-    other_lines c.args.self.now c.args.line c.in-Some.at c.in-Some.at g.held.now c.store.new.self g.ensures.unique c.in-Some.ensures.entry g.ensures.value
+    other_lines c.args.self.now c.args.line c.in-Some.at c.in-Some.at g.held.now c.store.new.self g.ensures.unique
+    c.in-Some.ensures.entry g.ensures.value
 
 pub returns-clause-ready : goal.returns-clause-ready
 returns-clause-ready c = λ x.
@@ -26,7 +30,10 @@ returns-clause-ready c = λ x.
     let g = c.in-Some-get_index_mut in
     elim (cases_eq (x / 64) c.args.line) [
       | inl e ↦
-          ap is_some (new_line m c.args.line c.in-Some.at c.in-Some.at g.held.now c.store.new.self g.ensures.unique c.in-Some.ensures.entry g.ensures.value x e)
-          ∙ sym (ap is_some (old_line m c.args.line c.in-Some.at c.in-Some.at g.held.now c.store.new.self g.ensures.unique c.in-Some.ensures.entry g.ensures.value x e))
-      | inr n ↦ ap is_some (other_lines m c.args.line c.in-Some.at c.in-Some.at g.held.now c.store.new.self g.ensures.unique c.in-Some.ensures.entry g.ensures.value x n)
+          ap is_some (new_line m c.args.line c.in-Some.at c.in-Some.at g.held.now c.store.new.self g.ensures.unique
+          c.in-Some.ensures.entry g.ensures.value x e)
+          ∙ sym (ap is_some (old_line m c.args.line c.in-Some.at c.in-Some.at g.held.now c.store.new.self
+          g.ensures.unique c.in-Some.ensures.entry g.ensures.value x e))
+      | inr n ↦ ap is_some (other_lines m c.args.line c.in-Some.at c.in-Some.at g.held.now c.store.new.self
+          g.ensures.unique c.in-Some.ensures.entry g.ensures.value x n)
     ]
