@@ -5,6 +5,8 @@
 #[cfg(test)]
 mod failing;
 #[cfg(test)]
+mod feeding;
+#[cfg(test)]
 mod large;
 #[cfg(test)]
 mod runs;
