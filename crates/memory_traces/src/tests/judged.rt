@@ -1,17 +1,36 @@
 //! Traces whose answers come from the text of the model and from an independent reading.
 mod blocks;
 mod choices;
+mod finer;
+mod initial;
 mod near;
 mod rows;
 mod rules;
 mod shapes;
 
-use super::judging::judged;
-use super::table::{CaseRow, Lists, Tables, lists_of, wanted};
-use rvwmo_model::Judged;
+use super::judging::{Filled, judged, judged_over};
+use super::table::{CaseRow, Lists, Tables, X, lists_of, wanted};
+use elf_image::Image;
+use rvwmo_model::{InitialBytes, Judged};
 use std::alloc::Global;
 use std::process::Abort;
 use std::test::Fail;
+
+fn each_over<R: Abort, I: InitialBytes>(
+    rt: &R,
+    alloc: Global,
+    image: &I,
+    cases: &[CaseRow],
+    tables: &Tables<'_>,
+) -> Result<(), Fail> {
+    for case in cases {
+        let (number, granule, want) = *case;
+        let lists = lists_of(alloc, tables, number, granule)?;
+        let answer = judged_over(alloc, image, &lists)?;
+        assert_eq!(rt; answer, wanted(want), "case {}", number);
+    }
+    Ok(())
+}
 
 fn each<R: Abort>(
     rt: &R,
@@ -19,13 +38,7 @@ fn each<R: Abort>(
     cases: &[CaseRow],
     tables: &Tables<'_>,
 ) -> Result<(), Fail> {
-    for case in cases {
-        let (number, granule, want) = *case;
-        let lists = lists_of(alloc, tables, number, granule)?;
-        let answer = judged(alloc, 0, &lists)?;
-        assert_eq!(rt; answer, wanted(want), "case {}", number);
-    }
-    Ok(())
+    each_over(rt, alloc, &Filled { byte: 0 }, cases, tables)
 }
 
 #[test]
@@ -77,12 +90,32 @@ fn judges_choices(rt: HostRuntime) -> Result<(), Fail> {
 
 #[test]
 fn tells_near_readings_apart(rt: HostRuntime) -> Result<(), Fail> {
+    let alloc = rt.alloc();
     let tables = Tables {
         insns: &near::INSNS,
         ops: &near::OPS,
         early: &near::EARLY,
     };
-    each(&rt, rt.alloc(), &near::CASES, &tables)
+    each(&rt, alloc, &near::CASES, &tables)?;
+    let tables = Tables {
+        insns: &finer::INSNS,
+        ops: &finer::OPS,
+        early: &finer::EARLY,
+    };
+    each(&rt, alloc, &finer::CASES, &tables)
+}
+
+#[test]
+fn loads_take_initial_values(rt: HostRuntime) -> Result<(), Fail> {
+    let alloc = rt.alloc();
+    let tables = Tables {
+        insns: &initial::INSNS,
+        ops: &initial::OPS,
+        early: &initial::EARLY,
+    };
+    each_over(&rt, alloc, &Filled { byte: 7 }, &initial::SEVENS, &tables)?;
+    let image = Image::flat(alloc, b"abcdefgh", X, &[]).map_err(|_| "no image")?;
+    each_over(&rt, alloc, &image, &initial::LOADED, &tables)
 }
 
 #[test]

@@ -43,12 +43,12 @@ fn op_list(alloc: Global, ops: &[Op]) -> Result<OpList, Fail>
     Ok(list)
 }
 
-/// What is answered to a trace, over memory that is all that byte at first. In `all` stand its
-/// operations, and then its early stores.
+/// What is answered to a trace over that memory. In `all` stand its operations, and then its early
+/// stores.
 #[tactic(auto, using(crate::proofs::Formed::formed))]
-fn answer(
+fn answer<I: InitialBytes>(
     alloc: Global,
-    byte: u8,
+    image: &I,
     granule: u8,
     insns: &[Retired],
     ops: &[Op],
@@ -66,19 +66,28 @@ fn answer(
         early: op_list(alloc, early)?,
         granule,
     };
-    Ok(plain_judge(alloc, &Filled { byte }, &trace)?)
+    Ok(plain_judge(alloc, image, &trace)?)
 }
 
-/// What is answered to the trace of these lists, over memory that is all that byte at first.
-pub fn judged(alloc: Global, byte: u8, lists: &Lists) -> Result<Judged, Fail> {
+/// What is answered to the trace of these lists over that memory.
+pub fn judged_over<I: InitialBytes>(
+    alloc: Global,
+    image: &I,
+    lists: &Lists,
+) -> Result<Judged, Fail> {
     let (ops, early) = lists.all.split_at(lists.count.min(lists.all.len()));
     answer(
         alloc,
-        byte,
+        image,
         lists.granule,
         &lists.insns,
         ops,
         early,
         &lists.all,
     )
+}
+
+/// What is answered to the trace of these lists, over memory that is all that byte at first.
+pub fn judged(alloc: Global, byte: u8, lists: &Lists) -> Result<Judged, Fail> {
+    judged_over(alloc, &Filled { byte }, lists)
 }
