@@ -27,7 +27,8 @@ use Rattle.rv_step.specs.Plans.{doing_word, fault_cause, fault_of, illegal, is_h
 use Rattle.rv_step.specs.Plans.{must_align}
 use Rattle.rv_step.specs.Plans.{plan_fetched, plan_of, plan_seen}
 use Rattle.rv_step.specs.Promises.{HasCsr, IsAlignedAtomic, IsOfKind, IsTarget, extent_of, insn_of, is_call, is_plain}
-use Rattle.rv_step.specs.Promises.{reads_counter, is_load, is_store, is_lr, is_sc, is_amo}
+use Rattle.rv_step.specs.Promises.{reads_counter}
+use Rattle.rv_decode.specs.Kinds.{is_load, is_store, is_lr, is_sc, is_amo}
 use Rattle.rv_step.specs.Steps.{Doing, trap, plain, counter, load, store, lr, sc, amo}
 use Rattle.rv_step.proofs.Held.{has_bytes-each}
 

@@ -3,6 +3,7 @@ use Rattle.std.specs.Prelude.{ℕ, ◌≡◌, ◌%◌, Bool, true, false, not, �
 use Rattle.std.specs.Prelude.{Option, Some, None, if◌then◌else◌}
 use Rattle.tandem_base.specs.declared.extent.Extent.{Extent}
 use Rattle.csr_file.specs.CsrFile.{is_csr, is_read_only}
+use Rattle.rv_decode.specs.Kinds.{is_load, is_store, is_lr, is_sc, is_amo}
 use Rattle.rv_decode.specs.Registers.{writes_csr}
 use Rattle.rv_decode.specs.declared.instruction.Insn.{Insn}
 use Rattle.rv_decode.specs.declared.instruction.Insn.TheVariants.{Lui, Auipc, Jal, Jalr, Branch, Load, Store, AluImm}
@@ -37,31 +38,6 @@ extent_of (what.Store insn extent) = Some extent
 extent_of (what.Lr insn extent) = Some extent
 extent_of (what.Sc insn extent) = Some extent
 extent_of (what.Amo insn extent) = Some extent
-
--- a load, but LR
-abbrev pub is_load : Insn → Bool
-is_load (Load op rd rs1 imm) = true
-is_load _ = false
-
--- a store, but SC
-abbrev pub is_store : Insn → Bool
-is_store (Store op rs1 rs2 imm) = true
-is_store _ = false
-
--- LR
-abbrev pub is_lr : Insn → Bool
-is_lr (Lr wide aq rl rd rs1) = true
-is_lr _ = false
-
--- SC
-abbrev pub is_sc : Insn → Bool
-is_sc (Sc wide aq rl rd rs1 rs2) = true
-is_sc _ = false
-
--- an atomic operation
-abbrev pub is_amo : Insn → Bool
-is_amo (Amo op wide aq rl rd rs1 rs2) = true
-is_amo _ = false
 
 -- a CSR instruction that reads cycle or time
 abbrev pub reads_counter : Insn → Bool
