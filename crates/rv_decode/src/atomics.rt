@@ -1,6 +1,6 @@
 //! Words of one opcode: atomic instructions.
 
-ghost use Rattle.rv_decode.specs.Decoding.{atomic_of};
+ghost use Rattle.rv_decode.specs.Decoding.{as_atomic};
 ghost use Rattle.std.specs.Prelude.{◌≡◌, ℕ, Bool, IfSome};
 ghost use Rattle.rv_decode.specs.Formats.{part};
 ghost use Rattle.rv_decode.specs.Listing.{Encodes};
@@ -12,7 +12,7 @@ use crate::fields::{aq, funct3, funct5, rd, rl, rs1, rs2};
 use crate::instruction::Insn;
 
 pub fn atomic(word: u32) -> Option<Insn>
-    ensures { result ≡ atomic_of word }
+    ensures { result ≡ as_atomic word }
 {
     let wide = width(funct3(word))?;
     let (aq, rl) = (aq(word), rl(word));

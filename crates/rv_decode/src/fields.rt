@@ -1,8 +1,8 @@
 //! The fields of a word (section 2.2).
 
-ghost use Rattle.rv_decode.specs.Decoding.{aq_of, rl_of};
+ghost use Rattle.rv_decode.specs.Decoding.{aq_bit, rl_bit};
 ghost use Rattle.std.specs.Prelude.{◌≡◌, pos};
-ghost use Rattle.rv_decode.specs.Formats.{part, bit};
+ghost use Rattle.rv_decode.specs.Formats.{part, bit_of};
 
 pub fn opcode(word: u32) -> u32
     ensures { result ≡ part word 6 0 }
@@ -60,13 +60,13 @@ pub fn amount(word: u32) -> i64
 }
 
 pub fn aq(word: u32) -> bool
-    ensures { result ≡ aq_of word }
+    ensures { result ≡ aq_bit word }
 {
     word >> 26 & 1 == 1
 }
 
 pub fn rl(word: u32) -> bool
-    ensures { result ≡ rl_of word }
+    ensures { result ≡ rl_bit word }
 {
     word >> 25 & 1 == 1
 }

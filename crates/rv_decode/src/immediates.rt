@@ -2,26 +2,26 @@
 
 ghost use Rattle.rv_decode.specs.Decoding.{i_imm, s_imm, b_imm, u_imm, j_imm};
 ghost use Rattle.std.specs.Prelude.{◌≡◌, ◌+◌, ◌*◌, ◌^◌, ℤ};
-ghost use Rattle.rv_decode.specs.Formats.{part, field, IsSigned, IsMultiple};
+ghost use Rattle.rv_decode.specs.Formats.{part, twos_complement, IsSigned, IsMultiple};
 
-use crate::signed::signed;
+use crate::signed::represented;
 
 pub fn i_immediate(word: u32) -> i64
     ensures { result ≡ i_imm word }
 {
-    signed(12, word >> 20)
+    represented(12, word >> 20)
 }
 
 pub fn s_immediate(word: u32) -> i64
     ensures { result ≡ s_imm word }
 {
-    signed(12, (word >> 25 << 5) + (word >> 7 & 0x1F))
+    represented(12, (word >> 25 << 5) + (word >> 7 & 0x1F))
 }
 
 pub fn b_immediate(word: u32) -> i64
     ensures { result ≡ b_imm word }
 {
-    signed(
+    represented(
         13,
         (word >> 31 << 12)
             + ((word >> 7 & 1) << 11)
@@ -33,13 +33,13 @@ pub fn b_immediate(word: u32) -> i64
 pub fn u_immediate(word: u32) -> i64
     ensures { result ≡ u_imm word }
 {
-    signed(32, word >> 12 << 12)
+    represented(32, word >> 12 << 12)
 }
 
 pub fn j_immediate(word: u32) -> i64
     ensures { result ≡ j_imm word }
 {
-    signed(
+    represented(
         21,
         (word >> 31 << 20)
             + ((word >> 12 & 0xFF) << 12)

@@ -1,7 +1,7 @@
 //! Words of one opcode, on registers and immediates.
 
-ghost use Rattle.rv_decode.specs.Decoding.{rd_of, u_imm, j_imm, jalr_of, branch_of, load_of, store_of, alu_imm_of};
-ghost use Rattle.rv_decode.specs.Decoding.{alu_imm_word_of, alu_reg_of};
+ghost use Rattle.rv_decode.specs.Decoding.{rd_field, u_imm, j_imm, as_jalr, as_branch, as_load, as_store, as_alu_imm};
+ghost use Rattle.rv_decode.specs.Decoding.{as_alu_imm_word, as_alu};
 ghost use Rattle.std.specs.Prelude.{◌≡◌};
 ghost use Rattle.rv_decode.specs.Formats.{part};
 ghost use Rattle.rv_decode.specs.Listing.{Encodes};
@@ -20,7 +20,7 @@ use crate::instruction::Insn;
 use crate::operations::ImmOp;
 
 pub fn lui(word: u32) -> Insn
-    ensures { result ≡ Lui (rd_of word) (u_imm word) }
+    ensures { result ≡ Lui (rd_field word) (u_imm word) }
 {
     Insn::Lui {
         rd: rd(word),
@@ -29,7 +29,7 @@ pub fn lui(word: u32) -> Insn
 }
 
 pub fn auipc(word: u32) -> Insn
-    ensures { result ≡ Auipc (rd_of word) (u_imm word) }
+    ensures { result ≡ Auipc (rd_field word) (u_imm word) }
 {
     Insn::Auipc {
         rd: rd(word),
@@ -38,7 +38,7 @@ pub fn auipc(word: u32) -> Insn
 }
 
 pub fn jal(word: u32) -> Insn
-    ensures { result ≡ Jal (rd_of word) (j_imm word) }
+    ensures { result ≡ Jal (rd_field word) (j_imm word) }
 {
     Insn::Jal {
         rd: rd(word),
@@ -47,7 +47,7 @@ pub fn jal(word: u32) -> Insn
 }
 
 pub fn jalr(word: u32) -> Option<Insn>
-    ensures { result ≡ jalr_of word }
+    ensures { result ≡ as_jalr word }
 {
     match funct3(word) {
         0b000 => Some(Insn::Jalr {
@@ -60,7 +60,7 @@ pub fn jalr(word: u32) -> Option<Insn>
 }
 
 pub fn branch(word: u32) -> Option<Insn>
-    ensures { result ≡ branch_of word }
+    ensures { result ≡ as_branch word }
 {
     let op = branch_op(funct3(word))?;
     Some(Insn::Branch {
@@ -72,7 +72,7 @@ pub fn branch(word: u32) -> Option<Insn>
 }
 
 pub fn load(word: u32) -> Option<Insn>
-    ensures { result ≡ load_of word }
+    ensures { result ≡ as_load word }
 {
     let op = load_op(funct3(word))?;
     Some(Insn::Load {
@@ -84,7 +84,7 @@ pub fn load(word: u32) -> Option<Insn>
 }
 
 pub fn store(word: u32) -> Option<Insn>
-    ensures { result ≡ store_of word }
+    ensures { result ≡ as_store word }
 {
     let op = store_op(funct3(word))?;
     Some(Insn::Store {
@@ -109,7 +109,7 @@ fn alu_imm_of(op: ImmOp, word: u32, imm: i64) -> Insn
 
 /// An operation on 64 bits and an immediate.
 pub fn alu_imm(word: u32) -> Option<Insn>
-    ensures { result ≡ alu_imm_of word }
+    ensures { result ≡ as_alu_imm word }
 {
     let (imm, shift) = (i_immediate(word), amount(word));
     match (funct6(word), funct3(word)) {
@@ -128,7 +128,7 @@ pub fn alu_imm(word: u32) -> Option<Insn>
 
 /// An operation on the low 32 bits and an immediate.
 pub fn alu_imm_word(word: u32) -> Option<Insn>
-    ensures { result ≡ alu_imm_word_of word }
+    ensures { result ≡ as_alu_imm_word word }
 {
     let shift = i64::from(rs2(word));
     match (funct7(word), funct3(word)) {
@@ -142,7 +142,7 @@ pub fn alu_imm_word(word: u32) -> Option<Insn>
 
 /// An operation on 64 bits.
 pub fn alu(word: u32) -> Option<Insn>
-    ensures { result ≡ alu_reg_of 0b0110011 word }
+    ensures { result ≡ as_alu 0b0110011 word }
 {
     let op = reg_op(funct7(word), funct3(word))?;
     Some(Insn::Alu {
@@ -155,7 +155,7 @@ pub fn alu(word: u32) -> Option<Insn>
 
 /// An operation on the low 32 bits.
 pub fn alu_word(word: u32) -> Option<Insn>
-    ensures { result ≡ alu_reg_of 0b0111011 word }
+    ensures { result ≡ as_alu 0b0111011 word }
 {
     let op = reg_op_word(funct7(word), funct3(word))?;
     Some(Insn::Alu {

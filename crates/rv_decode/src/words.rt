@@ -1,10 +1,10 @@
 //! Words from fields (sections 2.2 and 2.3).
 
 ghost use Rattle.std.specs.Prelude.{◌≡◌, ◌<◌, ◌^◌, ℤ};
-ghost use Rattle.rv_decode.specs.Formats.{field, IsSigned, IsMultiple, IsAmount, bit, r_type, i_type, s_type, b_type};
-ghost use Rattle.rv_decode.specs.Formats.{u_type, j_type, shift_type, a_type, fence_type};
+ghost use Rattle.rv_decode.specs.Formats.{twos_complement, IsSigned, IsMultiple, IsAmount, bit_of, r_type};
+ghost use Rattle.rv_decode.specs.Formats.{i_type, s_type, b_type, u_type, j_type, shift_type, a_type, fence_type};
 
-use crate::signed::field;
+use crate::signed::twos_complement;
 
 /// What every word but those of the formats U and J has in common.
 fn low_word(rs1: u8, funct3: u32, rd: u8, opcode: u32) -> u32
@@ -36,9 +36,9 @@ pub fn i_word(imm: i64, rs1: u8, funct3: u32, rd: u8, opcode: u32) -> u32
     requires funct3 { funct3 < 2 ^ 3 }
     requires rd { rd < 2 ^ 5 }
     requires opcode { opcode < 2 ^ 7 }
-    ensures { result ≡ i_type (field 12 imm) rs1 funct3 rd opcode }
+    ensures { result ≡ i_type (twos_complement 12 imm) rs1 funct3 rd opcode }
 {
-    (field(12, imm) << 20) + low_word(rs1, funct3, rd, opcode)
+    (twos_complement(12, imm) << 20) + low_word(rs1, funct3, rd, opcode)
 }
 
 pub fn shift_word(funct6: u32, amount: i64, rs1: u8, funct3: u32, rd: u8, opcode: u32) -> u32
@@ -48,7 +48,7 @@ pub fn shift_word(funct6: u32, amount: i64, rs1: u8, funct3: u32, rd: u8, opcode
     requires funct3 { funct3 < 2 ^ 3 }
     requires rd { rd < 2 ^ 5 }
     requires opcode { opcode < 2 ^ 7 }
-    ensures { result ≡ shift_type funct6 (field 6 amount) rs1 funct3 rd opcode }
+    ensures { result ≡ shift_type funct6 (twos_complement 6 amount) rs1 funct3 rd opcode }
 {
     (funct6 << 26) + ((amount as u32) << 20) + low_word(rs1, funct3, rd, opcode)
 }
@@ -59,9 +59,9 @@ pub fn s_word(imm: i64, rs2: u8, rs1: u8, funct3: u32, opcode: u32) -> u32
     requires rs1 { rs1 < 2 ^ 5 }
     requires funct3 { funct3 < 2 ^ 3 }
     requires opcode { opcode < 2 ^ 7 }
-    ensures { result ≡ s_type (field 12 imm) rs2 rs1 funct3 opcode }
+    ensures { result ≡ s_type (twos_complement 12 imm) rs2 rs1 funct3 opcode }
 {
-    let n = field(12, imm);
+    let n = twos_complement(12, imm);
     ((n >> 5) << 25)
         + (u32::from(rs2) << 20)
         + (u32::from(rs1) << 15)
@@ -76,9 +76,9 @@ pub fn b_word(imm: i64, rs2: u8, rs1: u8, funct3: u32, opcode: u32) -> u32
     requires rs1 { rs1 < 2 ^ 5 }
     requires funct3 { funct3 < 2 ^ 3 }
     requires opcode { opcode < 2 ^ 7 }
-    ensures { result ≡ b_type (field 13 imm) rs2 rs1 funct3 opcode }
+    ensures { result ≡ b_type (twos_complement 13 imm) rs2 rs1 funct3 opcode }
 {
-    let n = field(13, imm);
+    let n = twos_complement(13, imm);
     ((n >> 12) << 31)
         + ((n >> 5 & 0x3F) << 25)
         + (u32::from(rs2) << 20)
@@ -93,18 +93,18 @@ pub fn u_word(imm: i64, rd: u8, opcode: u32) -> u32
     requires imm { IsMultiple 32 12 imm }
     requires rd { rd < 2 ^ 5 }
     requires opcode { opcode < 2 ^ 7 }
-    ensures { result ≡ u_type (field 32 imm) rd opcode }
+    ensures { result ≡ u_type (twos_complement 32 imm) rd opcode }
 {
-    field(32, imm) + (u32::from(rd) << 7) + opcode
+    twos_complement(32, imm) + (u32::from(rd) << 7) + opcode
 }
 
 pub fn j_word(imm: i64, rd: u8, opcode: u32) -> u32
     requires imm { IsMultiple 21 1 imm }
     requires rd { rd < 2 ^ 5 }
     requires opcode { opcode < 2 ^ 7 }
-    ensures { result ≡ j_type (field 21 imm) rd opcode }
+    ensures { result ≡ j_type (twos_complement 21 imm) rd opcode }
 {
-    let n = field(21, imm);
+    let n = twos_complement(21, imm);
     ((n >> 20) << 31)
         + ((n >> 1 & 0x3FF) << 21)
         + ((n >> 11 & 1) << 20)
