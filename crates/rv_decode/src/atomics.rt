@@ -11,6 +11,7 @@ use crate::columns::{amo_op, width};
 use crate::fields::{aq, funct3, funct5, rd, rl, rs1, rs2};
 use crate::instruction::Insn;
 
+/// An LR, SC or AMO (sections 8.2 and 8.4).
 pub fn atomic(word: u32) -> Option<Insn>
     ensures { result ≡ as_atomic word }
 {

@@ -11,6 +11,7 @@ use crate::columns::csr_op;
 use crate::fields::{funct3, rd, rs1};
 use crate::instruction::Insn;
 
+/// A FENCE (section 2.7).
 pub fn fence(word: u32) -> Option<Insn>
     ensures { result ≡ as_fence word }
 {

@@ -6,18 +6,21 @@ ghost use Rattle.rv_decode.specs.Formats.{part, twos_complement, IsSigned, IsMul
 
 use crate::signed::represented;
 
+/// The immediate of the I-type.
 pub fn i_immediate(word: u32) -> i64
     ensures { result ≡ i_imm word }
 {
     represented(12, word >> 20)
 }
 
+/// The immediate of the S-type.
 pub fn s_immediate(word: u32) -> i64
     ensures { result ≡ s_imm word }
 {
     represented(12, (word >> 25 << 5) + (word >> 7 & 0x1F))
 }
 
+/// The immediate of the B-type.
 pub fn b_immediate(word: u32) -> i64
     ensures { result ≡ b_imm word }
 {
@@ -30,12 +33,14 @@ pub fn b_immediate(word: u32) -> i64
     )
 }
 
+/// The immediate of the U-type.
 pub fn u_immediate(word: u32) -> i64
     ensures { result ≡ u_imm word }
 {
     represented(32, word >> 12 << 12)
 }
 
+/// The immediate of the J-type.
 pub fn j_immediate(word: u32) -> i64
     ensures { result ≡ j_imm word }
 {

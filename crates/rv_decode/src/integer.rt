@@ -19,6 +19,7 @@ use crate::immediates::{b_immediate, i_immediate, j_immediate, s_immediate, u_im
 use crate::instruction::Insn;
 use crate::operations::ImmOp;
 
+/// LUI (section 2.4).
 pub fn lui(word: u32) -> Insn
     ensures { result ≡ Lui (rd_field word) (u_imm word) }
 {
@@ -28,6 +29,7 @@ pub fn lui(word: u32) -> Insn
     }
 }
 
+/// AUIPC (section 2.4).
 pub fn auipc(word: u32) -> Insn
     ensures { result ≡ Auipc (rd_field word) (u_imm word) }
 {
@@ -37,6 +39,7 @@ pub fn auipc(word: u32) -> Insn
     }
 }
 
+/// JAL (section 2.5).
 pub fn jal(word: u32) -> Insn
     ensures { result ≡ Jal (rd_field word) (j_imm word) }
 {
@@ -46,6 +49,7 @@ pub fn jal(word: u32) -> Insn
     }
 }
 
+/// JALR (section 2.5).
 pub fn jalr(word: u32) -> Option<Insn>
     ensures { result ≡ as_jalr word }
 {
@@ -59,6 +63,7 @@ pub fn jalr(word: u32) -> Option<Insn>
     }
 }
 
+/// A branch (section 2.5).
 pub fn branch(word: u32) -> Option<Insn>
     ensures { result ≡ as_branch word }
 {
@@ -71,6 +76,7 @@ pub fn branch(word: u32) -> Option<Insn>
     })
 }
 
+/// A load (section 2.6).
 pub fn load(word: u32) -> Option<Insn>
     ensures { result ≡ as_load word }
 {
@@ -83,6 +89,7 @@ pub fn load(word: u32) -> Option<Insn>
     })
 }
 
+/// A store (section 2.6).
 pub fn store(word: u32) -> Option<Insn>
     ensures { result ≡ as_store word }
 {

@@ -18,6 +18,7 @@ fn low_word(rs1: u8, funct3: u32, rd: u8, opcode: u32) -> u32
     (u32::from(rs1) << 15) + (funct3 << 12) + (u32::from(rd) << 7) + opcode
 }
 
+/// A word of the R-type.
 pub fn r_word(funct7: u32, rs2: u8, rs1: u8, funct3: u32, rd: u8, opcode: u32) -> u32
     requires funct7 { funct7 < 2 ^ 7 }
     requires rs2 { rs2 < 2 ^ 5 }
@@ -30,6 +31,7 @@ pub fn r_word(funct7: u32, rs2: u8, rs1: u8, funct3: u32, rd: u8, opcode: u32) -
     (funct7 << 25) + (u32::from(rs2) << 20) + low_word(rs1, funct3, rd, opcode)
 }
 
+/// A word of the I-type.
 pub fn i_word(imm: i64, rs1: u8, funct3: u32, rd: u8, opcode: u32) -> u32
     requires imm { IsSigned 12 imm }
     requires rs1 { rs1 < 2 ^ 5 }
@@ -41,6 +43,7 @@ pub fn i_word(imm: i64, rs1: u8, funct3: u32, rd: u8, opcode: u32) -> u32
     (twos_complement(12, imm) << 20) + low_word(rs1, funct3, rd, opcode)
 }
 
+/// The word of a shift on 64 bits by an immediate.
 pub fn shift_word(funct6: u32, amount: i64, rs1: u8, funct3: u32, rd: u8, opcode: u32) -> u32
     requires funct6 { funct6 < 2 ^ 6 }
     requires amount { IsAmount 6 amount }
@@ -53,6 +56,7 @@ pub fn shift_word(funct6: u32, amount: i64, rs1: u8, funct3: u32, rd: u8, opcode
     (funct6 << 26) + ((amount as u32) << 20) + low_word(rs1, funct3, rd, opcode)
 }
 
+/// A word of the S-type.
 pub fn s_word(imm: i64, rs2: u8, rs1: u8, funct3: u32, opcode: u32) -> u32
     requires imm { IsSigned 12 imm }
     requires rs2 { rs2 < 2 ^ 5 }
@@ -70,6 +74,7 @@ pub fn s_word(imm: i64, rs2: u8, rs1: u8, funct3: u32, opcode: u32) -> u32
         + opcode
 }
 
+/// A word of the B-type.
 pub fn b_word(imm: i64, rs2: u8, rs1: u8, funct3: u32, opcode: u32) -> u32
     requires imm { IsMultiple 13 1 imm }
     requires rs2 { rs2 < 2 ^ 5 }
@@ -89,6 +94,7 @@ pub fn b_word(imm: i64, rs2: u8, rs1: u8, funct3: u32, opcode: u32) -> u32
         + opcode
 }
 
+/// A word of the U-type.
 pub fn u_word(imm: i64, rd: u8, opcode: u32) -> u32
     requires imm { IsMultiple 32 12 imm }
     requires rd { rd < 2 ^ 5 }
@@ -98,6 +104,7 @@ pub fn u_word(imm: i64, rd: u8, opcode: u32) -> u32
     twos_complement(32, imm) + (u32::from(rd) << 7) + opcode
 }
 
+/// A word of the J-type.
 pub fn j_word(imm: i64, rd: u8, opcode: u32) -> u32
     requires imm { IsMultiple 21 1 imm }
     requires rd { rd < 2 ^ 5 }
@@ -113,6 +120,7 @@ pub fn j_word(imm: i64, rd: u8, opcode: u32) -> u32
         + opcode
 }
 
+/// The word of an atomic instruction.
 pub fn a_word(funct5: u32, aq: bool, rl: bool, rs2: u8, rs1: u8, funct3: u32, rd: u8) -> u32
     requires funct5 { funct5 < 2 ^ 5 }
     requires rs2 { rs2 < 2 ^ 5 }
@@ -128,6 +136,7 @@ pub fn a_word(funct5: u32, aq: bool, rl: bool, rs2: u8, rs1: u8, funct3: u32, rd
         + low_word(rs1, funct3, rd, 0b0101111)
 }
 
+/// The word of a FENCE.
 pub fn fence_word(fm: u8, pred: u8, succ: u8, rs1: u8, rd: u8) -> u32
     requires fm { fm < 2 ^ 4 }
     requires pred { pred < 2 ^ 4 }
@@ -142,6 +151,7 @@ pub fn fence_word(fm: u8, pred: u8, succ: u8, rs1: u8, rd: u8) -> u32
         + low_word(rs1, 0b000, rd, 0b0001111)
 }
 
+/// The word of a CSR instruction.
 pub fn csr_word(number: u16, source: u8, funct3: u32, rd: u8) -> u32
     requires number { number < 2 ^ 12 }
     requires source { source < 2 ^ 5 }

@@ -189,7 +189,9 @@ pub fn undertaken(insn: Insn, extent: Extent) -> What
 /// The causes that an access may raise.
 #[derive(Clone, Copy, Debug, PartialEq, Eq)]
 pub struct Causes {
+    /// Where it has to be aligned and isn't.
     pub misaligned: u8,
+    /// Where a byte is outside the image.
     pub fault: u8,
 }
 
