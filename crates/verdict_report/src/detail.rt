@@ -179,7 +179,13 @@ fn put_address(out: &mut [u8], at: usize, addr: u64) -> usize
 }
 
 // Puts a byte that differs, with its address.
-fn put_byte_differs(out: &mut [u8], at: usize, addr: u64, want: Option<u8>, got: Option<u8>) -> usize
+fn put_byte_differs(
+    out: &mut [u8],
+    at: usize,
+    addr: u64,
+    want: Option<u8>,
+    got: Option<u8>,
+) -> usize
     requires { at + 107 ≤ length out.old }
     ensures puts { Puts at out.old result out.new (byte_differs addr want got) }
     ensures bound { result ≤ at + 107 }
@@ -244,10 +250,26 @@ pub fn put_detail(out: &mut [u8], at: usize, fault: &Fault) -> usize
         Fault::TimeBack { last } | Fault::LateTag { last } | Fault::TagOrder { last } => {
             put_last(out, at, last)
         }
-        Fault::StoreData { at: addr, want, got }
-        | Fault::MergeMismatch { at: addr, want, got }
-        | Fault::AmoData { at: addr, want, got }
-        | Fault::LoadValue { at: addr, want, got } => put_byte_differs(out, at, addr, want, got),
+        Fault::StoreData {
+            at: addr,
+            want,
+            got,
+        }
+        | Fault::MergeMismatch {
+            at: addr,
+            want,
+            got,
+        }
+        | Fault::AmoData {
+            at: addr,
+            want,
+            got,
+        }
+        | Fault::LoadValue {
+            at: addr,
+            want,
+            got,
+        } => put_byte_differs(out, at, addr, want, got),
         Fault::StrayBypass { bypass } => {
             let end = put(out, at, b" bypass=");
             put_decimal(out, end, bypass)
@@ -260,14 +282,20 @@ pub fn put_detail(out: &mut [u8], at: usize, fault: &Fault) -> usize
             put_differing(out, at, Shown::Number(want), Shown::Number(got))
         }
         Fault::Trap { want, got } => put_differing(out, at, Shown::Cause(want), Shown::Cause(got)),
-        Fault::MissingRead { at: addr } | Fault::TornRead { at: addr } => put_address(out, at, addr),
+        Fault::MissingRead { at: addr } | Fault::TornRead { at: addr } => put_address(
+            out, at, addr,
+        ),
         Fault::Rd { want, got } => put_differing(out, at, Shown::RdWant(want), Shown::Rd(got)),
         Fault::Csr { index, want, got } => {
             let end = put(out, at, b" index=");
             let end = put_decimal(out, end, index);
             put_differing(out, end, Shown::Csr(want), Shown::Csr(got))
         }
-        Fault::Order { rule, first, second } => put_order(out, at, rule, first, second),
+        Fault::Order {
+            rule,
+            first,
+            second,
+        } => put_order(out, at, rule, first, second),
         Fault::Atomicity { at: addr, store } => {
             let end = put_address(out, at, addr);
             let end = put(out, end, b" store=");
