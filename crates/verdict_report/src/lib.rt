@@ -11,7 +11,7 @@ mod text;
 mod verdict;
 
 pub use fault::{Fault, RdWant};
-pub use numbers::{put_decimal, put_hexadecimal};
+pub use numbers::put_decimal;
 pub use printing::print;
 pub use text::line;
 pub use verdict::{Limit, Report, Verdict};

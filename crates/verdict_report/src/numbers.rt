@@ -19,7 +19,7 @@ pub fn put_decimal<I: Integer>(out: &mut [u8], at: usize, n: I) -> usize
 }
 
 /// Puts the number in hexadecimal.
-pub fn put_hexadecimal(out: &mut [u8], at: usize, n: u64) -> usize
+pub(crate) fn put_hexadecimal(out: &mut [u8], at: usize, n: u64) -> usize
     requires { at + 18 ≤ length out.old }
     ensures puts { Puts at out.old result out.new (hexadecimal n) }
     ensures bound { result ≤ at + 18 }
