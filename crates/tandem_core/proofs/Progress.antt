@@ -25,7 +25,7 @@ use Rattle.tandem_core.specs.Runs.{frames_of, offset_of}
 use Rattle.tandem_core.specs.Judgements.{Judgement, judgement, decided, accept_of, verdict_at, bad_frame_of}
 use Rattle.tandem_core.specs.Judgements.{truncated_of}
 use Rattle.tandem_core.specs.Cores.{Stands}
-use Rattle.tandem_core.specs.Judging.{IsSpelled, Decides, Lacks}
+use Rattle.tandem_core.specs.Judging.{IsSpelled, Decides, Halts, Lacks}
 use Rattle.tandem_core.proofs.JudgeLaws.{judged_after, after_decision, after_end, after_bad, after_short}
 use Rattle.tandem_core.proofs.FrameLaws.{frames_size, frames_judged}
 
@@ -193,4 +193,17 @@ lacks_part front p short = record {
   spelled = p.spelled;
   quiet = p.stands.quiet;
   short = short;
+}
+
+-- a message that is whole, and of which nothing more is known
+pub halts_at : {image : Loaded} {limits : Limits} {core : Core} {left left' : Option (List ℕ)} {log log' : Log}
+    (front : List ℕ) (m : Message) (p : Progress image limits core left left' log log') → Spells front m →
+    Halts image limits (frames_of p.before ++ front)
+halts_at front m p spells = record {
+  before = p.before;
+  last = Some m;
+  is = ap (λ (bytes : List ℕ). frames_of p.before ++ bytes) spells.is;
+  spelled = p.spelled;
+  spelled_last = subst (λ (bytes : List ℕ). Spells bytes m) spells.is spells;
+  quiet = p.stands.quiet;
 }
