@@ -1,5 +1,5 @@
 -- How far the judging of a source has come, and what each next frame makes of it.
-use Rattle.std.proofs.Common.{◌≡◌, ℕ, ◌+◌, ◌≤◌, ◌<◌, ◌⊎◌, inl, inr, Bool, true, false, List, [], ◌∷◌, ◌++◌}
+use Rattle.std.proofs.Common.{◌≡◌, ℕ, ◌+◌, ◌⊎◌, inl, inr, Bool, true, false, List, [], ◌∷◌, ◌++◌}
 use Rattle.std.proofs.Common.{length, refl, sym, ap, ◌∙◌, subst, arith, Option, None, Some, Ok, Err}
 use Rattle.std.proofs.Common.{append_assoc, length-append}
 use Rattle.std.specs.Prelude.{All, if◌then◌else◌}
@@ -9,9 +9,9 @@ use Rattle.std.proofs.lemmas.List.Elements.{All-nil, All-cons}
 use Rattle.tandem_io.specs.Told.{Log}
 use Rattle.msg_frames.specs.declared.message.Message.{Message}
 use Rattle.msg_frames.specs.declared.message.FrameFault.{FrameFault}
-use Rattle.msg_frames.specs.Frames.{frame, Spells}
+use Rattle.msg_frames.specs.Frames.{Spells}
 use Rattle.msg_frames.specs.Reading.{reading}
-use Rattle.msg_frames.specs.Cut.{cut, needed, is_end}
+use Rattle.msg_frames.specs.Cut.{cut, is_end}
 use Rattle.msg_frames.specs.Taking.{Took, IsWhole, IsShort}
 use Rattle.msg_frames.proofs.Taking.{Took-nil, Took-trans}
 use Rattle.msg_frames.proofs.CutLaws.{needed_least, needed_front, cut_message, cut_end, cut_bad, cut_short}

@@ -1,6 +1,6 @@
 -- What a core stands for, and its answers.
-use Rattle.std.specs.Prelude.{ℕ, ◌≡◌, ◌+◌, ◌<◌, nat_lt, true, false, Option, Some, None, Result, Ok, Err}
-use Rattle.std.specs.Prelude.{if◌then◌else◌, List, ◌∷◌, length, slice_index_or}
+use Rattle.std.specs.Prelude.{ℕ, ◌≡◌, ◌+◌, ◌<◌, nat_lt, Option, Some, None, Result, Ok, Err}
+use Rattle.std.specs.Prelude.{if◌then◌else◌, List, length, slice_index_or}
 use Rattle.std.specs.Option.{option_map_or}
 use Rattle.msg_frames.specs.declared.message.OpenInfo.{OpenInfo}
 use Rattle.msg_frames.specs.declared.message.Message.{Message}

@@ -1,12 +1,10 @@
 use Rattle.std.proofs.Common.{◌≡◌, sym, ap, ◌∙◌, ◌++◌, Some, None, arith}
-use Rattle.std.specs.Prelude.{IfNone}
-use Rattle.elf_image.specs.Images.{ImageOf}
 use Rattle.elf_image.specs.Images.{loaded_of}
 use Rattle.tandem_core.specs.Runs.{frames_of}
 use Rattle.tandem_core.specs.Judgements.{verdict_at}
 use Rattle.verdict_report.specs.declared.verdict.Verdict.TheVariants as verdict
 use Rattle.tandem_core.proofs.StandsLaws.{counted, stands_here}
-use Rattle.tandem_core.proofs.Progress.{begins, takes, goes_on, given_by, malformed, ends_short, lacks_part, halts_at}
+use Rattle.tandem_core.proofs.Progress.{takes, goes_on, given_by, malformed, ends_short, lacks_part, halts_at}
 use Rattle.tandem_core.proofs.judging.judge_in.Goals as goal
 
 pub returns-in-Err-clause-judged : goal.returns-in-Err-clause-judged
