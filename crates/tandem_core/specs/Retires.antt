@@ -1,5 +1,5 @@
 -- A hart's reports, one at a time: what is wrong with a Retire or a Poke, and what it leaves behind.
-use Rattle.std.specs.Prelude.{ℕ, ◌==◌, Bool, true, false, Some, None, if◌then◌else◌, is_some, unwrap_or}
+use Rattle.std.specs.Prelude.{ℕ, ◌==◌, Bool, true, false, Some, None, if◌then◌else◌, is_some}
 use Rattle.std.specs.declared.option.Option.{Option}
 use Rattle.msg_frames.specs.declared.message.Poke.{Poke}
 use Rattle.msg_frames.specs.declared.message.RdValue.{RdValue}
@@ -7,7 +7,6 @@ use Rattle.msg_frames.specs.declared.message.Retire.{Retire}
 use Rattle.elf_image.specs.Images.{Loaded}
 use Rattle.rv_decode.specs.declared.instruction.Insn.{Insn}
 use Rattle.rv_decode.specs.declared.instruction.Insn.TheVariants as insn
-use Rattle.rv_step.specs.declared.hart.Hart.{Hart}
 use Rattle.rv_step.specs.declared.plan.Config.{Config}
 use Rattle.rv_step.specs.declared.effect.Effect.{Effect}
 use Rattle.rv_step.specs.declared.effect.Outside.{Outside}
