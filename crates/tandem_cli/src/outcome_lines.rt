@@ -10,9 +10,9 @@ ghost use Rattle.tandem_base.specs.Puts.{Puts};
 
 use super::file_fault::FileFault;
 use elf_image::TooLarge;
+use numerals::put_decimal;
 use tandem_base::put;
 use tandem_io::{Failed, Sink, write_all};
-use verdict_report::put_decimal;
 
 /// Writes the words that `check` takes. After an error the sink took a front of the line.
 pub fn print_usage<K: Sink>(out: &mut K) -> Result<(), Failed>

@@ -1,12 +1,13 @@
 -- The lines that tell a verdict, as bytes. A line ends with one newline, and one space separates
 -- its parts.
-use Rattle.std.specs.Prelude.{ℕ, List, [], ◌++◌, false, codes, Option, None, Some}
-use Rattle.std.specs.Fmt.{decimal, digits}
+use Rattle.std.specs.Prelude.{ℕ, List, [], ◌++◌, codes, Option, None, Some}
+use Rattle.std.specs.Fmt.{decimal}
 use Rattle.msg_frames.specs.declared.csrs.CsrValue.{CsrValue}
 use Rattle.msg_frames.specs.declared.message.Form.{Form}
 use Rattle.msg_frames.specs.declared.message.Form.TheVariants.{Length, Kind, Reserved, Field}
 use Rattle.msg_frames.specs.declared.message.Head.{Head}
 use Rattle.msg_frames.specs.declared.message.RdValue.{RdValue}
+use Rattle.numerals.specs.Numerals.{hexadecimal}
 use Rattle.tandem_base.specs.Texts.{newline}
 use Rattle.tandem_base.specs.declared.names.OpName.{OpName}
 use Rattle.tandem_base.specs.declared.names.Origin.{Origin}
@@ -25,10 +26,6 @@ use Rattle.verdict_report.specs.declared.verdict.Limit.TheVariants.{Reads, Store
 use Rattle.verdict_report.specs.declared.verdict.Report.{Report}
 use Rattle.verdict_report.specs.declared.verdict.Verdict.{Verdict}
 use Rattle.verdict_report.specs.declared.verdict.Verdict.TheVariants.{Accept, Reject, Undecided}
-
--- `0x`, and the number in base 16 with lower-case digits and no leading zeros
-abbrev pub hexadecimal : ℕ → List ℕ
-hexadecimal n = codes "0x" ++ digits 16 false n
 
 -- how a frame breaks the grammar
 abbrev pub form_text : Form → List ℕ

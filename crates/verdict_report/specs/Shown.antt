@@ -2,7 +2,8 @@
 use Rattle.std.specs.Prelude.{ℕ, List}
 use Rattle.verdict_report.specs.declared.detail.Shown.{Shown}
 use Rattle.verdict_report.specs.declared.detail.Shown.TheVariants as shown
-use Rattle.verdict_report.specs.Lines.{hexadecimal, cause_text, rd_want_text, rd_text, csr_text, byte_text}
+use Rattle.numerals.specs.Numerals.{hexadecimal}
+use Rattle.verdict_report.specs.Lines.{cause_text, rd_want_text, rd_text, csr_text, byte_text}
 
 -- the text of a value that a fault tells
 abbrev pub shown_text : Shown → List ℕ

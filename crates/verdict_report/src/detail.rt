@@ -9,8 +9,8 @@ ghost use Rattle.verdict_report.specs.Shown.{shown_text};
 ghost use Rattle.tandem_base.specs.Puts.{Puts};
 
 use super::fault::{Fault, RdWant};
-use super::numbers::{put_decimal, put_hexadecimal};
 use msg_frames::{CsrValue, Form, RdValue};
+use numerals::{put_decimal, put_hexadecimal};
 use tandem_base::{OpName, Origin, put};
 
 /// A value that a fault tells.
