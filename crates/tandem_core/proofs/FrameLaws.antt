@@ -7,7 +7,7 @@ use Rattle.msg_frames.specs.declared.message.Message.{Message}
 use Rattle.msg_frames.specs.Frames.{frame, Spells}
 use Rattle.msg_frames.specs.Reading.{reading}
 use Rattle.msg_frames.specs.Cut.{cut, is_end}
-use Rattle.msg_frames.specs.Taking.{IsWhole, IsShort}
+use Rattle.msg_frames.specs.Taking.{IsWholeFrame, IsShort}
 use Rattle.msg_frames.proofs.CutLaws.{cut_message, whole_frame}
 use Rattle.msg_frames.proofs.Frames.{reading_frame}
 use Rattle.elf_image.specs.Images.{Loaded}
