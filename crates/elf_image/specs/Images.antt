@@ -5,7 +5,7 @@ use Rattle.std.specs.List.{find}
 use Rattle.std.specs.Option.{option_map, option_or}
 use Rattle.std.specs.Int.{w32, from_le_bytes}
 use Rattle.tandem_base.specs.declared.extent.Extent.{Extent}
-use Rattle.tandem_base.specs.Extents.{is_among, Covers}
+use Rattle.tandem_base.specs.Extents.{is_among, InExtent}
 
 -- a segment: its bytes from the file, from `base` up, then zeros up to `size` bytes
 pub record Segment : Type 0 where
@@ -47,17 +47,19 @@ abbrev pub loaded_of : ImageOf → Loaded
 loaded_of image = record { entry = image.entry; byte_at = byte_of image }
 
 -- the number in four bytes, lowest first
-abbrev pub word_of : Option ℕ → Option ℕ → Option ℕ → Option ℕ → Option ℕ
-word_of (Some a) (Some b) (Some c) (Some d) = Some (from_le_bytes w32 (a ∷ b ∷ c ∷ d ∷ []))
-word_of _ _ _ _ = None
+abbrev pub word_of_bytes : Option ℕ → Option ℕ → Option ℕ → Option ℕ → Option ℕ
+word_of_bytes (Some a) (Some b) (Some c) (Some d) = Some (from_le_bytes w32 (a ∷ b ∷ c ∷ d ∷ []))
+word_of_bytes _ _ _ _ = None
 
 -- the word at an address, None where one of its bytes has no range or is past 2^64
 unfoldable pub word_at : Loaded → ℕ → Option ℕ
 word_at image addr =
     if nat_le addr (2 ^ 64 - 4)
-    then word_of (image.byte_at addr) (image.byte_at (addr + 1)) (image.byte_at (addr + 2)) (image.byte_at (addr + 3))
+    then
+        word_of_bytes (image.byte_at addr) (image.byte_at (addr + 1)) (image.byte_at (addr + 2))
+        (image.byte_at (addr + 3))
     else None
 
 -- every byte of the extent is in a range
-abbrev pub Holds : Loaded → Extent → Type 0
-Holds image extent = (x : ℕ) → Covers extent x → IsSome (image.byte_at x)
+abbrev pub HoldsExtent : Loaded → Extent → Type 0
+HoldsExtent image extent = (x : ℕ) → InExtent extent x → IsSome (image.byte_at x)

@@ -7,7 +7,6 @@ mod flat;
 mod header;
 mod image;
 mod limits;
-mod number;
 mod program;
 mod ram;
 mod range;

@@ -12,7 +12,7 @@ use Rattle.msg_frames.specs.declared.message.FrameFault.{FrameFault}
 use Rattle.msg_frames.specs.Frames.{Spells}
 use Rattle.msg_frames.specs.Reading.{reading}
 use Rattle.msg_frames.specs.Cut.{cut, is_end}
-use Rattle.msg_frames.specs.Taking.{Took, IsWhole, IsShort}
+use Rattle.msg_frames.specs.Taking.{Took, IsWholeFrame, IsShort}
 use Rattle.msg_frames.proofs.Taking.{Took-nil, Took-trans}
 use Rattle.msg_frames.proofs.CutLaws.{needed_least, needed_front, cut_message, cut_end, cut_bad, cut_short}
 use Rattle.elf_image.specs.Images.{Loaded}
@@ -94,7 +94,7 @@ at_size v n = record { verdict = v; taken = n }
 -- a message that decides
 given_at : {image : Loaded} {limits : Limits} {core : Core} {left left' left'' : Option (List ℕ)} {log log' : Log}
     (front : List ℕ) (m : Message) (v : Verdict) (p : Progress image limits core left left' log log') →
-    IsWhole front → reading front ≡ Ok m → Spells front m → decided image limits p.before m ≡ Some v →
+    IsWholeFrame front → reading front ≡ Ok m → Spells front m → decided image limits p.before m ≡ Some v →
     Decides image limits (frames_of p.before ++ front) left'' v
 given_at {image} {limits} {core} {left} {left'} {left''} {log} {log'} front m v p whole reads spells here =
     let size = grown p.before front m spells in
@@ -113,7 +113,7 @@ given_at {image} {limits} {core} {left} {left'} {left''} {log} {log'} front m v 
 -- the End
 given_at_end : {image : Loaded} {limits : Limits} {core : Core} {left left' left'' : Option (List ℕ)} {log log' : Log}
     (front : List ℕ) (m : Message) (v : Verdict) (p : Progress image limits core left left' log log') →
-    IsWhole front → reading front ≡ Ok m → Spells front m → decided image limits p.before m ≡ None →
+    IsWholeFrame front → reading front ≡ Ok m → Spells front m → decided image limits p.before m ≡ None →
     is_end m.body ≡ true → v ≡ accept_of (m ∷ p.before) →
     Decides image limits (frames_of p.before ++ front) left'' v
 given_at_end {image} {limits} {core} {left} {left'} {left''} {log} {log'} front m v p whole reads spells here ends is =
@@ -138,7 +138,7 @@ either_way None false v w e = absurd (cc)
 -- a message that ends with a verdict
 pub given_by : {image : Loaded} {limits : Limits} {core : Core} {left left' left'' : Option (List ℕ)} {log log' : Log}
     (front : List ℕ) (m : Message) (v : Verdict) (p : Progress image limits core left left' log log') →
-    IsWhole front → reading front ≡ Ok m → Spells front m → verdict_at image limits p.before m ≡ Some v →
+    IsWholeFrame front → reading front ≡ Ok m → Spells front m → verdict_at image limits p.before m ≡ Some v →
     Decides image limits (frames_of p.before ++ front) left'' v
 given_by {image} {limits} {core} {left} {left'} {left''} {log} {log'} front m v p whole reads spells is =
     elim (either_way (decided image limits p.before m) (is_end m.body) v (accept_of (m ∷ p.before)) is) [
@@ -149,7 +149,7 @@ given_by {image} {limits} {core} {left} {left'} {left''} {log} {log'} front m v 
 -- a frame that spells no message
 pub malformed : {image : Loaded} {limits : Limits} {core : Core} {left left' left'' : Option (List ℕ)} {log log' : Log}
     (front : List ℕ) (f : FrameFault) (v : Verdict) (p : Progress image limits core left left' log log') →
-    IsWhole front → reading front ≡ Err f → v ≡ verdict.Reject (bad_frame_of p.before f) →
+    IsWholeFrame front → reading front ≡ Err f → v ≡ verdict.Reject (bad_frame_of p.before f) →
     Decides image limits (frames_of p.before ++ front) left'' v
 malformed {image} {limits} {core} {left} {left'} {left''} {log} {log'} front f v p whole reads is =
     let least = needed_least front in
