@@ -211,7 +211,7 @@ module _ (w : ℕ) where
       let c : part w 11 8 ≡ part n 4 1 = let h = f.rd in omega arith in
       let d : part w 7 7 ≡ part n 11 11 = let h = f.rd in omega arith in
       let whole : part w 31 31 * 2 ^ 12 + part w 7 7 * 2 ^ 11 + part w 30 25 * 2 ^ 5 + part w 11 8 * 2 ≡ n =
-          rw (a, b, c, d) (omega arith) in
+      rw (a, b, c, d) (omega arith) in
       let i : b_imm w ≡ imm = ap (represents 13) whole ∙ number_again 13 imm refl e.fits.2.range in
       at_branch f.opcode ∙ rw (f.funct3, branch_at-funct3 op, f.rs1, f.rs2, i) refl
 
@@ -378,7 +378,7 @@ module _ (w : ℕ) where
       let c : part w 20 20 ≡ part n 11 11 = omega arith in
       let g : part w 30 21 ≡ part n 10 1 = omega arith in
       let whole : part w 31 31 * 2 ^ 20 + part w 19 12 * 2 ^ 12 + part w 20 20 * 2 ^ 11 + part w 30 21 * 2 ≡ n =
-          rw (a, b, c, g) (omega arith) in
+      rw (a, b, c, g) (omega arith) in
       let i : j_imm w ≡ imm = ap (represents 21) whole ∙ number_again 21 imm refl e.fits.1.range in
       at_jal o ∙ rw (d, i) refl
 
