@@ -26,7 +26,7 @@ use Rattle.tandem_cli.specs.declared.outcome.Outcome.TheVariants as outcome
 use Rattle.tandem_cli.specs.Options.{Chosen}
 use Rattle.tandem_cli.specs.Words.{Asked}
 use Rattle.tandem_cli.specs.Checks.{meaning_at, meaning_of, answer_of, answer_to_file, answer_to_image}
-use Rattle.tandem_cli.specs.Checks.{answer_to_stream, IsAccepted, IsTaken, ImageIs, StreamIs, StreamCaused, no_image_of}
+use Rattle.tandem_cli.specs.Checks.{answer_to_stream, IsAccepted, IsFront, ImageIs, StreamIs, StreamCaused, no_image_of}
 use Rattle.tandem_cli.specs.Checks.{image_read, stream_judged}
 
 -- ---- an image that was read whole, or as far as one is read
@@ -134,10 +134,10 @@ missing_stream (Some files) asked image found none told =
     (content_none (content_of files asked.stream) (sym none ∙ told))
 
 -- what was taken of a stream that is there
-taken_is : {names : List Named} {asked : Asked} {image : Loaded} (stream got rest : List ℕ) →
+front_is : {names : List Named} {asked : Asked} {image : Loaded} (stream got rest : List ℕ) →
     content_of names asked.stream ≡ Some stream → stream ≡ got ++ rest → IsAccepted asked names image →
-    IsTaken asked names image got (Some rest)
-taken_is stream got rest there is accepted = record {
+    IsFront asked names image got (Some rest)
+front_is stream got rest there is accepted = record {
   stream = stream;
   rest = rest;
   there = record { accepted = accepted; stream_is = there };
@@ -173,10 +173,10 @@ stream_is names asked image (Ok v) stream got (Some rest) there consumed decides
     }
 stream_is names asked image (Err unjudged.Failed) stream got None there consumed lacks accepted = absurd consumed
 stream_is names asked image (Err unjudged.Failed) stream got (Some rest) there consumed lacks accepted =
-    record { image = image; got = got; taken = taken_is stream got rest there consumed accepted; lacks = lacks }
+    record { image = image; got = got; taken = front_is stream got rest there consumed accepted; lacks = lacks }
 stream_is names asked image (Err unjudged.Memory) stream got None there consumed halts accepted = absurd consumed
 stream_is names asked image (Err unjudged.Memory) stream got (Some rest) there consumed halts accepted =
-    record { image = image; got = got; taken = taken_is stream got rest there consumed accepted; halts = halts }
+    record { image = image; got = got; taken = front_is stream got rest there consumed accepted; halts = halts }
 
 -- what was attached as the stream and judged
 pub judged_told : (names : Option (List Named)) (asked : Asked) (image : Loaded) (judged : Result Verdict Unjudged)

@@ -82,7 +82,7 @@ pub record IsJudged (asked : Asked) (names : List Named) (v : Verdict) (left : O
   pub left_is : left ≡ Some (drop (judgement image asked.options.limits stream).taken stream)
 
 -- these bytes were taken of the stream that is asked for, which is judged against this image, and the rest is left
-pub record IsTaken (asked : Asked) (names : List Named) (image : Loaded) (got : List ℕ) (left : Option (List ℕ))
+pub record IsFront (asked : Asked) (names : List Named) (image : Loaded) (got : List ℕ) (left : Option (List ℕ))
     : Type 0 where
   pub stream : List ℕ
   pub rest : List ℕ
@@ -94,14 +94,14 @@ pub record IsTaken (asked : Asked) (names : List Named) (image : Loaded) (got : 
 pub record IsUnread (asked : Asked) (names : List Named) (left : Option (List ℕ)) : Type 0 where
   pub image : Loaded
   pub got : List ℕ
-  pub taken : IsTaken asked names image got left
+  pub taken : IsFront asked names image got left
   pub lacks : Lacks image asked.options.limits got
 
 -- what was taken of the stream ends at most with the frame at which the verdict stands, and memory was refused there
 pub record IsHalted (asked : Asked) (names : List Named) (left : Option (List ℕ)) : Type 0 where
   pub image : Loaded
   pub got : List ℕ
-  pub taken : IsTaken asked names image got left
+  pub taken : IsFront asked names image got left
   pub halts : Halts image asked.options.limits got
 
 -- what the want of an image says of inputs that tell their names

@@ -1,3 +1,5 @@
+//! The grammar of the words, and the lines of outcomes.
+
 use super::chosen::CheckOptions;
 use super::file_fault::FileFault;
 use super::outcome_lines::{print_failed, print_image_fault, print_missing, print_usage};

@@ -103,8 +103,8 @@ difference_of clock pc word effect retire =
     or_else written_fault_of clock effect retire
 
 -- the step of the hart, with what the report says of the outside
-abbrev pub step_of : Loaded → Config → HartRun → Retire → Done
-step_of image config run retire = Step run.hart image config (outside_of retire)
+abbrev pub reported_step : Loaded → Config → HartRun → Retire → Done
+reported_step image config run retire = Step run.hart image config (outside_of retire)
 
 -- the first fault of a Retire of this tag, where the hart is so before it
 abbrev pub retire_fault_of : Loaded → Config → HartRun → ℕ → Retire → Option Fault
@@ -113,12 +113,12 @@ retire_fault_of image config run tag retire =
     tag_fault_of run.last tag
     or_else unbuilt_fault_of plan.doing
     or_else difference_of (clock_read plan.doing run.clocks) run.hart.pc plan.word
-    (step_of image config run retire).effect retire
+    (reported_step image config run retire).effect retire
 
 -- the hart after a Retire of this tag
 abbrev pub run_retired : Loaded → Config → HartRun → ℕ → Retire → HartRun
 run_retired image config run tag retire = record {
-  hart = (step_of image config run retire).hart;
+  hart = (reported_step image config run retire).hart;
   last = Some tag;
   clocks = clocks_after (plan_of run.hart image config).doing retire.rd run.clocks;
 }
