@@ -1,10 +1,10 @@
 -- The faults that both readers know, and how a reader answers.
-use Rattle.std.specs.Prelude.{ℕ, ◌≡◌, ◌+◌, ◌⊎◌, nat_lt, if◌then◌else◌, List, length, Option, None, Some, Result}
+use Rattle.std.specs.Prelude.{ℕ, ◌≡◌, ◌+◌, ◌^◌, ◌⊎◌, nat_lt, if◌then◌else◌, List, length, Option, None, Some, Result}
 use Rattle.std.specs.Prelude.{Ok, Err}
 use Rattle.elf_image.specs.declared.fault.ImageFault.{ImageFault}
 use Rattle.elf_image.specs.declared.fault.ImageFault.TheVariants as fault
 use Rattle.elf_image.specs.declared.fault.TooLarge.TheVariants as limit
-use Rattle.elf_image.specs.declared.limits.TheConstants.{MOST_FILE_BYTES, MOST_RANGES, MOST_BYTES}
+use Rattle.elf_image.specs.declared.limits.TheConstants.{MOST_FILE_BYTES}
 use Rattle.elf_image.specs.Images.{ImageOf, Loaded, loaded_of}
 
 -- a file of too many bytes: it is read up to one byte past the limit
@@ -12,11 +12,11 @@ abbrev pub file_fault : List ℕ → Option ImageFault
 file_fault bytes =
     if nat_lt MOST_FILE_BYTES (length bytes) then Some (fault.TooLarge (limit.File (MOST_FILE_BYTES + 1))) else None
 
--- segments and RAM: at most so many ranges, of at most so many bytes together
+-- segments and RAM: at most 64 ranges, of at most 2^40 bytes together
 abbrev pub limit_fault : ℕ → ℕ → Option ImageFault
 limit_fault count size =
-    if nat_lt MOST_RANGES count then Some (fault.TooLarge (limit.Ranges count))
-    else if nat_lt MOST_BYTES size then Some (fault.TooLarge (limit.Sum size))
+    if nat_lt 64 count then Some (fault.TooLarge (limit.Ranges count))
+    else if nat_lt (2 ^ 40) size then Some (fault.TooLarge (limit.Sum size))
     else None
 
 -- a reader answers what the file and the RAM mean, or that memory is wanting

@@ -17,6 +17,11 @@ pub const MOST_RANGES: u64 = 64;
 /// The most bytes that they may have together: 2^40.
 pub const MOST_BYTES: u128 = 1 << 40;
 
+/// The most bytes of a file are 2^28: a law, with nothing to do.
+pub fn most_file_bytes_has_its_number()
+    ensures { MOST_FILE_BYTES ≡ 2 ^ 28 }
+{}
+
 /// The fault of a file that is too long.
 pub fn check_file(bytes: &[u8]) -> Result<(), ImageFault>
     ensures fault { result ≡ passed (file_fault bytes.now) }
