@@ -5,7 +5,7 @@ use Rattle.std.specs.List.{find}
 use Rattle.std.specs.Option.{option_map, option_or}
 use Rattle.std.specs.Int.{w32, from_le_bytes}
 use Rattle.tandem_base.specs.declared.extent.Extent.{Extent}
-use Rattle.tandem_base.specs.Extents.{is_among, InExtent}
+use Rattle.tandem_base.specs.Extents.{is_among, Covers}
 
 -- a segment: its bytes from the file, from `base` up, then zeros up to `size` bytes
 pub record Segment : Type 0 where
@@ -61,5 +61,5 @@ word_at image addr =
     else None
 
 -- every byte of the extent is in a range
-abbrev pub HoldsExtent : Loaded → Extent → Type 0
-HoldsExtent image extent = (x : ℕ) → InExtent extent x → IsSome (image.byte_at x)
+abbrev pub Holds : Loaded → Extent → Type 0
+Holds image extent = (x : ℕ) → Covers extent x → IsSome (image.byte_at x)

@@ -35,7 +35,7 @@ impl Image {
     ghost use Rattle.std.specs.Prelude.{◌≡◌, ◌%◌, ◌+◌, ◌-◌, ◌^◌, ◌<◌, ◌≤◌, ◌↔◌, ℕ, IsTrue, IsSome, IfSome, IfNone};
     ghost use Rattle.std.specs.Prelude.{IfOk};
     ghost use Rattle.std.specs.List.{All, AllPairs};
-    ghost use Rattle.elf_image.specs.Images.{loaded_of, word_at, HoldsExtent};
+    ghost use Rattle.elf_image.specs.Images.{loaded_of, word_at, Holds};
     ghost use Rattle.elf_image.specs.Tables.{EndsBefore, IsInFile, image_over};
 
     /// The image of a file's segments, which end before each other, and RAM.
@@ -113,7 +113,7 @@ impl Image {
 
     /// Whether every byte of the extent is in a range.
     pub fn holds(&self, extent: &Extent) -> bool
-        ensures { IsTrue result ↔ HoldsExtent (loaded_of self.now) extent.now }
+        ensures { IsTrue result ↔ Holds (loaded_of self.now) extent.now }
     {
         let len = u64::from(extent.len);
         let mut held = 0;

@@ -3,9 +3,9 @@ use Rattle.std.proofs.Common.{◌≡◌, ◌∙◌, ℕ, ◌+◌, ◌%◌, ◌^�
 use Rattle.std.proofs.Common.{ap}
 use Rattle.std.proofs.Common.{Option, Some, None, IfSome}
 use Rattle.std.specs.Prelude.{◌&&◌, not, if◌then◌else◌}
-use Rattle.std.proofs.lemmas.Bool.{and_parts, false≢true, eqb-true, not-false, not-true}
+use Rattle.std.proofs.lemmas.Bool.{and_parts, false≢true, eqb-true, not-false, not-true, leb-true, ltb-true}
 use Rattle.tandem_base.specs.declared.extent.Extent.{Extent}
-use Rattle.elf_image.specs.Images.{Loaded, HoldsExtent, word_at}
+use Rattle.elf_image.specs.Images.{Loaded, Holds, word_at}
 use Rattle.csr_file.specs.CsrFile.{is_implemented, is_read_only}
 use Rattle.rv_decode.specs.Decoding.{decoding}
 use Rattle.rv_decode.specs.Listing.{IsInsn}
@@ -200,11 +200,14 @@ module _ (hart : HartState) (image : Loaded) (config : Config) where
   planned plan lt e = fetched (word_at image hart.pc) plan.word (doing_seen plan.what) e lt
 
 -- the bytes of an access are in the image
-held_bytes : (image : Loaded) (extent : Extent) → is_held image extent.addr extent.len ≡ true → HoldsExtent image extent
-held_bytes image extent held x inside =
-    has_bytes-each image extent.addr extent.len x (and_parts _ _ held).1 inside.0 inside.1
+held_bytes : (image : Loaded) (extent : Extent) → is_held image extent.addr extent.len ≡ true → Holds image extent
+held_bytes image extent held x covers =
+    let parts = and_parts _ _ held in
+    let among = and_parts _ _ covers in
+    has_bytes-each image extent.addr extent.len x parts.1 (leb-true extent.addr x among.0)
+    (ltb-true x (extent.addr + extent.len) among.1)
 
-pub extent_held : (image : Loaded) (w : What) → IsHeld image (doing_seen w) → IfSome (planned_extent w) (HoldsExtent image)
+pub extent_held : (image : Loaded) (w : What) → IsHeld image (doing_seen w) → IfSome (planned_extent w) (Holds image)
 extent_held image (what.Trap cause value) held = tt
 extent_held image (what.Plain insn) held = tt
 extent_held image (what.Counter insn) held = tt

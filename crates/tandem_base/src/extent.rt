@@ -16,7 +16,7 @@ pub struct Extent {
 
 impl Extent {
     ghost use Rattle.std.specs.Prelude.{◌≡◌, ◌+◌, ◌^◌, ◌≤◌, ◌↔◌, ℕ, IsTrue, IsSome, IfSome};
-    ghost use Rattle.tandem_base.specs.Extents.{InExtent, IsAligned};
+    ghost use Rattle.tandem_base.specs.Extents.{Covers, IsAligned};
 
     /// The extent of `len` bytes at `addr`. None exactly where `len` isn't 1 to 8, or the bytes
     /// pass 2^64.
@@ -47,14 +47,14 @@ impl Extent {
 
     /// Whether the byte at `addr` is one of them.
     pub fn has(&self, addr: u64) -> bool
-        ensures { IsTrue result ↔ InExtent self.now addr }
+        ensures { IsTrue result ↔ Covers self.now addr }
     {
         self.addr <= addr && addr - self.addr < u64::from(self.len)
     }
 
     /// Whether the two share a byte.
     pub fn overlaps(&self, other: &Extent) -> bool
-        ensures shared { IsTrue result ↔ ((x : ℕ) × InExtent self.now x × InExtent other.now x) }
+        ensures shared { IsTrue result ↔ ((x : ℕ) × Covers self.now x × Covers other.now x) }
     {
         if self.addr <= other.addr {
             other.addr - self.addr < u64::from(self.len)

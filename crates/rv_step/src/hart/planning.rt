@@ -1,7 +1,7 @@
 //! What the instruction at a hart's pc is to do.
 
 ghost use Rattle.std.specs.Prelude.{◌≡◌, ◌<◌, ◌^◌, true, IfSome};
-ghost use Rattle.elf_image.specs.Images.{HoldsExtent, loaded_of};
+ghost use Rattle.elf_image.specs.Images.{Holds, loaded_of};
 ghost use Rattle.rv_decode.specs.Decoding.{decoding};
 ghost use Rattle.rv_decode.specs.Listing.{IsInsn};
 ghost use Rattle.rv_step.specs.Plans.{accesses, address_of, doing_of, doing_seen, doing_word, illegal, is_access};
@@ -29,7 +29,7 @@ impl Hart {
         ensures value { plan_seen result ≡ plan_of self.now (loaded_of image.now) config.now }
         ensures fits { IfSome (planned_insn (doing_seen result.what)) IsInsn }
         ensures kind { IsOfKind (doing_seen result.what) }
-        ensures held { IfSome (planned_extent result.what) (HoldsExtent (loaded_of image.now)) }
+        ensures held { IfSome (planned_extent result.what) (Holds (loaded_of image.now)) }
         ensures aligned { IsAlignedAtomic (doing_seen result.what) }
         ensures csr { IfSome (planned_insn (doing_seen result.what)) HasCsr }
         ensures target { IfSome (planned_insn (doing_seen result.what)) (IsTarget self.now) }

@@ -77,5 +77,5 @@ returns-in-Failed-clause-judged g c =
     let next = c.in-Failed.ensures {u = tt} in (
       frames_of p.before ++ next.taken.0,
       takes p.before next.taken.0 p.took next.taken.1,
-      lacks_part next.taken.0 p next.taken.2.0,
+      lacks_part next.taken.0 p next.taken.2,
     )
