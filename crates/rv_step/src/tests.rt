@@ -1,5 +1,8 @@
 //! Each instruction at the ends of its ranges, each trap, and each use of a CSR.
 
+ghost use Rattle.std.specs.Prelude.{IsTrue};
+ghost use Rattle.rv_step.specs.Steps.{HasLoaded};
+
 mod control;
 mod integers;
 mod state;
@@ -7,14 +10,14 @@ mod state;
 use self::control::{JUMPS, TRAPS};
 use self::integers::RESULTS;
 use self::state::{ACCESSES, CSRS};
-use crate::{Config, Effect, Hart, Outside, What};
+use crate::{Config, Effect, Hart, Outside, Plan, What};
 use elf_image::{Image, ImageFault, Ram};
 use msg_frames::{CsrValue, Poke, RdValue, Target};
 use std::alloc::Global;
 use std::process::Abort;
 use std::test::Fail;
-use tandem_base::Bytes8;
-use tandem_base::csrs::{MEPC, MSTATUS, MTVEC};
+use tandem_base::csrs::{MCAUSE, MEPC, MSTATUS, MTVAL, MTVEC};
+use tandem_base::{Bytes8, Extent};
 
 const BASE: u64 = 0x8000_0000;
 
@@ -57,6 +60,16 @@ fn hart_with(x1: u64, x2: u64) -> Hart {
     hart
 }
 
+/// Whether the loaded bytes are as many as the extent has.
+fn are_loaded(outside: &Outside, extent: &Extent) -> bool
+    ensures { IsTrue result → HasLoaded outside.now extent.now.len }
+{
+    match outside.load {
+        Some(bytes) => bytes.len() == extent.len(),
+        None => false,
+    }
+}
+
 /// Plans and finishes the word at the hart's pc.
 fn step(
     rt: &impl Abort,
@@ -68,18 +81,15 @@ fn step(
     let plan = hart.plan(image, config);
     match plan.what {
         What::Load(_, extent) => {
-            let bytes = outside.load.expect(rt, "loaded bytes");
-            assert_eq!(rt; bytes.len(), extent.len());
+            assert!(rt; are_loaded(outside, &extent));
             hart.finish(&plan, outside)
         }
         What::Lr(_, extent) => {
-            let bytes = outside.load.expect(rt, "loaded bytes");
-            assert_eq!(rt; bytes.len(), extent.len());
+            assert!(rt; are_loaded(outside, &extent));
             hart.finish(&plan, outside)
         }
         What::Amo(_, extent) => {
-            let bytes = outside.load.expect(rt, "loaded bytes");
-            assert_eq!(rt; bytes.len(), extent.len());
+            assert!(rt; are_loaded(outside, &extent));
             hart.finish(&plan, outside)
         }
         What::Trap { .. } => hart.finish(&plan, outside),
@@ -88,6 +98,29 @@ fn step(
         What::Store(_, _) => hart.finish(&plan, outside),
         What::Sc(_, _) => hart.finish(&plan, outside),
     }
+}
+
+/// What the hart reports of this word.
+fn effect_of(
+    rt: &impl Abort,
+    alloc: Global,
+    word: u32,
+    mut hart: Hart,
+    config: &Config,
+    outside: &Outside,
+) -> Result<Effect, ImageFault> {
+    let image = image_of(alloc, word)?;
+    Ok(step(rt, &mut hart, &image, config, outside))
+}
+
+/// Whether the step goes on at an address, and writes that register and nothing else.
+fn only_writes(effect: &Effect, next: u64, rd: Option<(u8, u64)>) -> bool {
+    let rd = rd.map(|(number, value)| RdValue { number, value });
+    effect.next == next
+        && effect.rd == rd
+        && effect.csrs.len() == 0
+        && effect.store.is_none()
+        && effect.trap.is_none()
 }
 
 #[test]
@@ -101,15 +134,9 @@ fn check_computes(
     rows: &[(u32, u64, u64, u64)],
 ) -> Result<(), Fail> {
     for (word, x1, x2, want) in rows {
-        let image = image_of(alloc, *word)?;
-        let mut hart = hart_with(*x1, *x2);
-        let effect = step(rt, &mut hart, &image, &PLAIN, &NOTHING);
-        let rd = Some(RdValue {
-            number: 3,
-            value: *want,
-        });
-        assert_eq!(rt; effect.rd, rd, "at {word} {x1} {x2}");
-        assert_eq!(rt; effect.next, BASE + 4, "at {word}");
+        let effect = effect_of(rt, alloc, *word, hart_with(*x1, *x2), &PLAIN, &NOTHING)?;
+        let computed = only_writes(&effect, BASE + 4, Some((3, *want)));
+        assert!(rt; computed, "at {word} {x1} {x2}");
     }
     Ok(())
 }
@@ -125,15 +152,43 @@ fn check_jumps(
     rows: &[(u32, u64, u64, u64, Option<(u8, u64)>)],
 ) -> Result<(), Fail> {
     for (word, x1, x2, next, rd) in rows {
-        let image = image_of(alloc, *word)?;
-        let mut hart = hart_with(*x1, *x2);
-        let effect = step(rt, &mut hart, &image, &PLAIN, &NOTHING);
-        let rd = rd.map(|(number, value)| RdValue { number, value });
-        assert_eq!(rt; effect.next, *next, "at {word} {x1} {x2}");
-        assert_eq!(rt; effect.rd, rd, "at {word} {x1} {x2}");
-        assert_eq!(rt; effect.trap, None, "at {word} {x1} {x2}");
+        let effect = effect_of(rt, alloc, *word, hart_with(*x1, *x2), &PLAIN, &NOTHING)?;
+        let jumped = only_writes(&effect, *next, *rd);
+        assert!(rt; jumped, "at {word} {x1} {x2}");
     }
     Ok(())
+}
+
+/// A hart at BASE with this value in x1, and a handler of traps.
+fn hart_with_handler(x1: u64) -> Hart {
+    let mut hart = hart_with(x1, 0);
+    hart.poke(&Poke {
+        target: Target::Csr(MSTATUS),
+        value: 8,
+    });
+    hart.poke(&Poke {
+        target: Target::Csr(MTVEC),
+        value: 0x8000_0103,
+    });
+    hart
+}
+
+/// Whether the CSR at that place of the report is this one, with this value.
+fn has_csr(effect: &Effect, at: usize, number: u16, value: u64) -> bool {
+    effect.csrs.get(at) == Some(CsrValue { number, value })
+}
+
+/// Whether that hart takes this trap at BASE.
+fn takes_trap(effect: &Effect, cause: u8, mtval: u64) -> bool {
+    effect.trap == Some(cause)
+        && effect.next == 0x8000_0100
+        && effect.rd.is_none()
+        && effect.store.is_none()
+        && effect.csrs.len() == 4
+        && has_csr(effect, 0, MSTATUS, 0x1880)
+        && has_csr(effect, 1, MEPC, BASE)
+        && has_csr(effect, 2, MCAUSE, u64::from(cause))
+        && has_csr(effect, 3, MTVAL, mtval)
 }
 
 #[test]
@@ -147,40 +202,36 @@ fn check_traps(
     rows: &[(u32, u64, bool, bool, u8, u64)],
 ) -> Result<(), Fail> {
     for (word, x1, mtval_word, traps_misaligned, cause, mtval) in rows {
-        let image = image_of(alloc, *word)?;
-        let mut hart = hart_with(*x1, 0);
-        hart.poke(&Poke {
-            target: Target::Csr(MSTATUS),
-            value: 8,
-        });
-        hart.poke(&Poke {
-            target: Target::Csr(MTVEC),
-            value: 0x8000_0103,
-        });
         let config = Config {
             mtval_word: *mtval_word,
             traps_misaligned: *traps_misaligned,
         };
-        let effect = step(rt, &mut hart, &image, &config, &NOTHING);
-        assert_eq!(rt; effect.trap, Some(*cause), "at {word} {x1}");
-        assert_eq!(rt; effect.next, 0x8000_0100, "at {word} {x1}");
-        assert_eq!(rt; effect.rd, None, "at {word} {x1}");
-        assert_eq!(rt; effect.store, None, "at {word} {x1}");
-        assert_eq!(rt; effect.csrs.len(), 4, "at {word} {x1}");
-        for (k, number, value) in [
-            (0, MSTATUS, 0x1880),
-            (1, MEPC, BASE),
-            (2, 0x342, u64::from(*cause)),
-            (3, 0x343, *mtval),
-        ] {
-            assert_eq!(rt;
-                effect.csrs.get(k),
-                Some(CsrValue { number, value }),
-                "at {word} {x1}"
-            );
-        }
+        let hart = hart_with_handler(*x1);
+        let effect = effect_of(rt, alloc, *word, hart, &config, &NOTHING)?;
+        let trapped = takes_trap(&effect, *cause, *mtval);
+        assert!(rt; trapped, "at {word} {x1}");
     }
     Ok(())
+}
+
+/// What comes from outside with the low bytes of a number, as many as are loaded.
+fn loading(number: u64, len: u8) -> Outside {
+    let bytes = number.to_le_bytes();
+    Outside {
+        load: bytes
+            .get(..len as usize)
+            .and_then(|bytes| Bytes8::new(bytes)),
+        stored: false,
+        reported: 0,
+    }
+}
+
+/// Whether the step goes on at the next word, and writes this value to a register and these bytes: a
+/// number with the address and the length.
+fn accesses_as(effect: &Effect, rd: Option<u64>, store: Option<(u64, u64, u8)>) -> bool {
+    let value = effect.rd.map(|rd| rd.value);
+    let stored = effect.store.map(|piece| (piece.addr, piece.bytes.number(), piece.bytes.len()));
+    value == rd && stored == store && effect.trap.is_none() && effect.next == BASE + 4
 }
 
 #[test]
@@ -201,27 +252,38 @@ fn check_accesses(
     )],
 ) -> Result<(), Fail> {
     for (word, x1, x2, (number, len), x3, store) in rows {
-        let image = image_of(alloc, *word)?;
-        let mut hart = hart_with(*x1, *x2);
-        assert!(rt; *len <= 8);
-        let outside = Outside {
-            load: Bytes8::new(&number.to_le_bytes()[..*len as usize]),
-            stored: false,
-            reported: 0,
-        };
-        let effect = step(rt, &mut hart, &image, &PLAIN, &outside);
-        let value = effect.rd.map(|rd| rd.value);
-        let stored = effect.store.map(|piece| (
-            piece.addr,
-            piece.bytes.number(),
-            piece.bytes.len(),
-        ));
-        assert_eq!(rt; value, *x3, "at {word}");
-        assert_eq!(rt; stored, *store, "at {word}");
-        assert_eq!(rt; effect.trap, None, "at {word}");
-        assert_eq!(rt; effect.next, BASE + 4, "at {word}");
+        let outside = loading(*number, *len);
+        let effect = effect_of(rt, alloc, *word, hart_with(*x1, *x2), &PLAIN, &outside)?;
+        let accessed = accesses_as(&effect, *x3, *store);
+        assert!(rt; accessed, "at {word} {x1}");
     }
     Ok(())
+}
+
+/// A hart at BASE with this value in x1, and this one in a CSR.
+fn hart_with_csr(rt: &impl Abort, x1: u64, number: u16, value: u64) -> Hart {
+    let mut hart = hart_with(x1, 0);
+    assert!(rt;
+        matches!(
+            number,
+            0x300 | 0x304 | 0x305 | 0x340 | 0x341 | 0x342 | 0x343
+        )
+    );
+    hart.poke(&Poke {
+        target: Target::Csr(number),
+        value,
+    });
+    hart
+}
+
+/// Whether the step goes on at the next word, and writes that register and that CSR alone.
+fn uses_csr(effect: &Effect, rd: Option<(u8, u64)>, csr: Option<(u16, u64)>) -> bool {
+    let rd = rd.map(|(number, value)| RdValue { number, value });
+    let csr = csr.map(|(number, value)| CsrValue { number, value });
+    effect.rd == rd
+        && effect.csrs.get(0) == csr
+        && effect.csrs.get(1).is_none()
+        && effect.next == BASE + 4
 }
 
 #[test]
@@ -242,94 +304,81 @@ fn check_uses_csrs(
     )],
 ) -> Result<(), Fail> {
     for (word, x1, (number, value), reported, rd, csr) in rows {
-        let image = image_of(alloc, *word)?;
-        let mut hart = hart_with(*x1, 0);
-        assert!(rt;
-            matches!(
-                *number,
-                0x300 | 0x304 | 0x305 | 0x340 | 0x341 | 0x342 | 0x343
-            )
-        );
-        hart.poke(&Poke {
-            target: Target::Csr(*number),
-            value: *value,
-        });
+        let hart = hart_with_csr(rt, *x1, *number, *value);
         let outside = Outside {
             load: None,
             stored: false,
             reported: *reported,
         };
-        let effect = step(rt, &mut hart, &image, &PLAIN, &outside);
-        let rd = rd.map(|(number, value)| RdValue { number, value });
-        let csr = csr.map(|(number, value)| CsrValue { number, value });
-        assert_eq!(rt; effect.rd, rd, "at {word}");
-        assert_eq!(rt; effect.csrs.get(0), csr, "at {word}");
-        assert_eq!(rt; effect.csrs.get(1), None, "at {word}");
-        assert_eq!(rt; effect.next, BASE + 4, "at {word}");
+        let effect = effect_of(rt, alloc, *word, hart, &PLAIN, &outside)?;
+        let used = uses_csr(&effect, *rd, *csr);
+        assert!(rt; used, "at {word} {x1}");
     }
     Ok(())
 }
 
 #[test]
 fn stores_conditionally(rt: HostRuntime) -> Result<(), Fail> {
-    let x2 = 0x0123_4567_89ab_cdef;
-    for (word, stored, rd, bytes) in [
-        (0x1820_a1af, true, Some(0), Some((0x89ab_cdef, 4))),
+    let (addr, x2) = (0x8000_1008, 0x0123_4567_89ab_cdef);
+    for (word, stored, rd, store) in [
+        (0x1820_a1af, true, Some(0), Some((addr, 0x89ab_cdef, 4))),
         (0x1820_a1af, false, Some(9), None),
-        (0x1820_b1af, true, Some(0), Some((x2, 8))),
-        (0x1820_a02f, true, None, Some((0x89ab_cdef, 4))),
+        (0x1820_b1af, true, Some(0), Some((addr, x2, 8))),
+        (0x1820_a02f, true, None, Some((addr, 0x89ab_cdef, 4))),
     ] {
-        let image = image_of(rt.alloc(), word)?;
-        let mut hart = hart_with(0x8000_1008, x2);
         let outside = Outside {
             load: None,
             stored,
             reported: 9,
         };
-        let effect = step(&rt, &mut hart, &image, &PLAIN, &outside);
-        assert_eq!(rt; effect.rd.map(|rd| rd.value), rd, "at {word}");
-        let piece = effect
-            .store
-            .map(|piece| (piece.bytes.number(), piece.bytes.len()));
-        assert_eq!(rt; piece, bytes, "at {word}");
-        assert_eq!(rt;
-            effect.store.map(|piece| piece.addr),
-            bytes.map(|_| 0x8000_1008)
-        );
+        let hart = hart_with(addr, x2);
+        let effect = effect_of(&rt, rt.alloc(), word, hart, &PLAIN, &outside)?;
+        let accessed = accesses_as(&effect, rd, store);
+        assert!(rt; accessed, "at {word}");
     }
     Ok(())
+}
+
+/// Steps the word at BASE, with the registers, CSRs and count that the hart has.
+fn step_at_base(
+    rt: &impl Abort,
+    alloc: Global,
+    hart: &mut Hart,
+    word: u32,
+) -> Result<Effect, ImageFault> {
+    hart.poke(&Poke {
+        target: Target::Pc,
+        value: BASE,
+    });
+    let image = image_of(alloc, word)?;
+    Ok(step(rt, hart, &image, &PLAIN, &NOTHING))
 }
 
 #[test]
 fn counts_what_retires_without_a_trap(rt: HostRuntime) -> Result<(), Fail> {
     let mut hart = Hart::new(0, BASE);
-    let nop = image_of(rt.alloc(), 0x13)?;
-    let call = image_of(rt.alloc(), 0x73)?;
-    let back = image_of(rt.alloc(), 0x3020_0073)?;
-    let count = image_of(rt.alloc(), 0xc020_21f3)?;
-    let at_base = Poke {
-        target: Target::Pc,
-        value: BASE,
-    };
-    for image in [&nop, &call, &back, &count] {
-        hart.poke(&at_base);
-        let effect = step(&rt, &mut hart, image, &PLAIN, &NOTHING);
-        if let Some(rd) = effect.rd {
-            assert_eq!(rt; rd.value, 2);
-        }
+    // a NOP, an ECALL and an MRET
+    for word in [0x13, 0x73, 0x3020_0073] {
+        step_at_base(&rt, rt.alloc(), &mut hart, word)?;
     }
-    hart.poke(&Poke {
-        target: Target::Pc,
-        value: 0x4000,
-    });
-    let plan = hart.plan(&nop, &PLAIN);
-    assert_eq!(rt; plan.word, 0);
-    assert_eq!(rt;
-        plan.what,
-        What::Trap {
+    // rdinstret x3
+    let effect = step_at_base(&rt, rt.alloc(), &mut hart, 0xc020_21f3)?;
+    let counted = only_writes(&effect, BASE + 4, Some((3, 2)));
+    assert!(rt; counted);
+    Ok(())
+}
+
+#[test]
+fn fetches_in_the_image_alone(rt: HostRuntime) -> Result<(), Fail> {
+    let image = image_of(rt.alloc(), 0x13)?;
+    let plan = Hart::new(0, 0x4000).plan(&image, &PLAIN);
+    let want = Plan {
+        word: 0,
+        what: What::Trap {
             cause: 1,
-            value: 0x4000
-        }
-    );
+            value: 0x4000,
+        },
+    };
+    assert!(rt; plan == want);
     Ok(())
 }
