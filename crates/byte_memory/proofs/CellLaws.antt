@@ -7,7 +7,8 @@ use Rattle.std.proofs.lemmas.Bool.{both_ways}
 use Rattle.std.proofs.lemmas.Bool.Decides.{nat_tests}
 use Rattle.tandem_base.specs.declared.names.Position.{Position}
 use Rattle.byte_memory.specs.declared.writer.Writer.{Writer}
-use Rattle.byte_memory.specs.Cells.{ByteStore, IsLatestStore, IsLatestWriter, IsLeft, Gains, is_before, is_foreign_before}
+use Rattle.byte_memory.specs.Cells.{ByteStore, IsLatestStore, IsLatestWriter, IsLeft, Gains, is_before}
+use Rattle.byte_memory.specs.Cells.{is_foreign_before}
 use Rattle.byte_memory.specs.Memory.{Written, overwritten, other_than, foreign_writer}
 use Rattle.tandem_base.specs.Places.{comes_before}
 use Rattle.byte_memory.proofs.Positions.{never_itself, not_before, before_past}
@@ -38,7 +39,8 @@ module _ (place : Position) (stores grown : List ByteStore)
   pub left_stays : (was : Option Written) → IsLeft place stores was → IsLeft place grown was
   left_stays None l = latest_same (is_before place) stores grown there back None l
   left_stays (Some w) l =
-      let before : (s : ByteStore) → is_foreign_before place w.last.hart s.writer ≡ true → is_before place s.writer ≡ true =
+      let before : (s : ByteStore) → is_foreign_before place w.last.hart s.writer ≡ true
+      → is_before place s.writer ≡ true =
       λ s e. (of_both _ _ e).0 in (
         latest_same (is_before place) stores grown there back (Some (record { writer = w.last; value = w.value })) l.0,
         (
@@ -58,7 +60,8 @@ left_foreign place stores (Some w) h l = at (w.last.hart == h) refl
     same : (w.last.hart == h) ≡ true → w.last.hart ≡ h
     same e = grind (arith, nat_tests)
 
-    at : (b : Bool) → (w.last.hart == h) ≡ b → IsLatestWriter (is_foreign_before place h) stores (foreign_writer h (Some w))
+    at : (b : Bool) → (w.last.hart == h) ≡ b
+        → IsLatestWriter (is_foreign_before place h) stores (foreign_writer h (Some w))
     at true e = rw e (subst (λ (n : ℕ). IsLatestWriter (is_foreign_before place n) stores w.other) (same e) l.1)
     at false e = rw e (
       Some (record { writer = w.last; value = w.value }),
