@@ -83,7 +83,8 @@ settled_by asked names slots slots' result old new before after
 settled_by asked names slots slots' result old new before after
     (outcome.Judged v) is caused quiet prints =
     let line = printed quiet.out.0 quiet.out.1 prints in
-    settle asked names slots' result old new (outcome.Judged v) _ (verdict_is asked names v slots'.stream.left is) refl line.0 line.1 is
+    settle asked names slots' result old new (outcome.Judged v) _ (verdict_is asked names v slots'.stream.left is) refl
+    line.0 line.1 is
 
 -- where no count rose, every answer is the one answer, or that memory was refused
 pub settled : (asked : Asked) (names : List Named) (slots slots' : Slots) (result : ℕ) (old new : Option (List ℕ))

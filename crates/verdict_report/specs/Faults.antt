@@ -1,11 +1,14 @@
 -- The number and the name of each fault.
 use Rattle.std.specs.Prelude.{ℕ, List, codes}
 use Rattle.verdict_report.specs.declared.fault.Fault.{Fault}
-use Rattle.verdict_report.specs.declared.fault.Fault.TheVariants.{BadFrame, Truncated, BadOpen, BadHart, TimeBack, LateTag}
-use Rattle.verdict_report.specs.declared.fault.Fault.TheVariants.{BadRange, UnknownStore, StoreData, TornStore, MergeMismatch, LatePoke}
+use Rattle.verdict_report.specs.declared.fault.Fault.TheVariants.{BadFrame, Truncated, BadOpen, BadHart, TimeBack}
+use Rattle.verdict_report.specs.declared.fault.Fault.TheVariants.{LateTag}
+use Rattle.verdict_report.specs.declared.fault.Fault.TheVariants.{BadRange, UnknownStore, StoreData, TornStore}
+use Rattle.verdict_report.specs.declared.fault.Fault.TheVariants.{MergeMismatch, LatePoke}
 use Rattle.verdict_report.specs.declared.fault.Fault.TheVariants.{TagOrder, StrayBypass, Pc, Word, Trap, MissingRead}
 use Rattle.verdict_report.specs.declared.fault.Fault.TheVariants.{TornRead, MissingBypass, NextPc, Rd, Csr, AmoData}
-use Rattle.verdict_report.specs.declared.fault.Fault.TheVariants.{ScPair, LoadValue, Order, Atomicity, Unwritten, Unretired}
+use Rattle.verdict_report.specs.declared.fault.Fault.TheVariants.{ScPair, LoadValue, Order, Atomicity, Unwritten}
+use Rattle.verdict_report.specs.declared.fault.Fault.TheVariants.{Unretired}
 use Rattle.verdict_report.specs.declared.fault.Fault.TheVariants.{Unbuilt}
 
 -- the number by which a line tells the fault

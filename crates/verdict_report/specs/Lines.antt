@@ -13,11 +13,14 @@ use Rattle.tandem_base.specs.declared.names.OpName.{OpName}
 use Rattle.tandem_base.specs.declared.names.Origin.{Origin}
 use Rattle.verdict_report.specs.Faults.{fault_number, fault_name}
 use Rattle.verdict_report.specs.declared.fault.Fault.{Fault}
-use Rattle.verdict_report.specs.declared.fault.Fault.TheVariants.{BadFrame, Truncated, BadOpen, BadHart, TimeBack, LateTag}
-use Rattle.verdict_report.specs.declared.fault.Fault.TheVariants.{BadRange, UnknownStore, StoreData, TornStore, MergeMismatch, LatePoke}
+use Rattle.verdict_report.specs.declared.fault.Fault.TheVariants.{BadFrame, Truncated, BadOpen, BadHart, TimeBack}
+use Rattle.verdict_report.specs.declared.fault.Fault.TheVariants.{LateTag}
+use Rattle.verdict_report.specs.declared.fault.Fault.TheVariants.{BadRange, UnknownStore, StoreData, TornStore}
+use Rattle.verdict_report.specs.declared.fault.Fault.TheVariants.{MergeMismatch, LatePoke}
 use Rattle.verdict_report.specs.declared.fault.Fault.TheVariants.{TagOrder, StrayBypass, Pc, Word, Trap, MissingRead}
 use Rattle.verdict_report.specs.declared.fault.Fault.TheVariants.{TornRead, MissingBypass, NextPc, Rd, Csr, AmoData}
-use Rattle.verdict_report.specs.declared.fault.Fault.TheVariants.{ScPair, LoadValue, Order, Atomicity, Unwritten, Unretired}
+use Rattle.verdict_report.specs.declared.fault.Fault.TheVariants.{ScPair, LoadValue, Order, Atomicity, Unwritten}
+use Rattle.verdict_report.specs.declared.fault.Fault.TheVariants.{Unretired}
 use Rattle.verdict_report.specs.declared.fault.Fault.TheVariants.{Unbuilt}
 use Rattle.verdict_report.specs.declared.fault.RdWant.{RdWant}
 use Rattle.verdict_report.specs.declared.fault.RdWant.TheVariants.{Absent, Value, Nonzero, AtLeast}
@@ -114,7 +117,8 @@ detail_of (AmoData at want got) = byte_differs at want got
 detail_of ScPair = []
 detail_of (LoadValue at want got) = byte_differs at want got
 detail_of (Order rule first second) =
-    codes " rule=" ++ decimal rule ++ codes " first=" ++ operation_text first ++ codes " second=" ++ operation_text second
+    codes " rule=" ++ decimal rule ++ codes " first=" ++ operation_text first
+    ++ codes " second=" ++ operation_text second
 detail_of (Atomicity at store) = at_text at ++ codes " store=" ++ origin_text store
 detail_of (Unwritten store at) = codes " store=" ++ origin_text store ++ at_text at
 detail_of (Unretired bypass) = codes " bypass=" ++ origin_text bypass
