@@ -1,6 +1,7 @@
 -- What the forms in memory keep of their calls: how many there were, and which are to fail.
-use Rattle.std.specs.Prelude.{ℕ, ◌+◌, ◌-◌, ◌^◌, ◌==◌, min, Bool, List, [], ◌∷◌, ◌++◌, if◌then◌else◌}
+use Rattle.std.specs.Prelude.{ℕ, ◌==◌, Bool, List, [], ◌∷◌, ◌++◌, if◌then◌else◌}
 use Rattle.std.specs.List.{list_any}
+use Rattle.tandem_io.specs.Causes.{next_count}
 
 -- the number of the last call, 0 before the first; the count of faults; and the numbers of the calls that are to fail
 pub record CallRecord : Type 0 where
@@ -11,10 +12,6 @@ pub record CallRecord : Type 0 where
 -- no call was made, and none is to fail
 abbrev pub no_calls : CallRecord
 no_calls = record { made = 0; faults = 0; failing = [] }
-
--- one more, up to the last value of a counter
-abbrev pub next_count : ℕ → ℕ
-next_count n = min (n + 1) (2 ^ 64 - 1)
 
 -- the next call is one of those that are to fail
 abbrev pub next_fails : CallRecord → Bool

@@ -1,5 +1,14 @@
 -- What the answer of a call says of a count of faults.
-use Rattle.std.specs.Prelude.{◌≡◌, ℕ, ◌-◌, ◌^◌, ◌<◌, ◌⊎◌, Bool, false, nat_eq, Result, Ok, Err, OnErr}
+use Rattle.std.specs.Prelude.{◌≡◌, ℕ, ◌+◌, ◌-◌, ◌^◌, ◌<◌, min, ◌⊎◌, Bool, false, nat_eq, Result, Ok, Err, OnErr}
+
+-- one more, up to the last value of a counter
+abbrev pub next_count : ℕ → ℕ
+next_count n = min (n + 1) (2 ^ 64 - 1)
+
+-- a count of faults after one more call: one more where the call failed
+abbrev pub count_after : {T E : Type 0} → ℕ → Result T E → ℕ
+count_after count (Ok _) = count
+count_after count (Err _) = next_count count
 
 -- the count rose, or it stands at 2 ^ 64 - 1, the last value of a counter
 abbrev pub Rose : ℕ → ℕ → Type 0

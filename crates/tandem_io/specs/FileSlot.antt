@@ -6,16 +6,20 @@ use Rattle.tandem_io.specs.declared.window.Window.{Window}
 use Rattle.tandem_io.specs.Inputs.{SlotView, Slots}
 use Rattle.tandem_io.specs.Window.{unread_in}
 
--- an open file: the bytes that are left in it where they are known, and whether its last read failed
+-- an open file: the bytes that are left in it where they are known, whether its last read failed, and
+-- how many of its reads did
 pub record FileView : Type 0 where
   pub left : Option (List ℕ)
   pub failed : Bool
+  pub errors : ℕ
 
--- a slot: what is told of it, the bytes that it lends, and whether the last read of its file failed
+-- a slot: what is told of it, the bytes that it lends, whether the last read of its file failed, and
+-- how many did
 pub record FileSlotView : Type 0 where
   pub told : SlotView
   pub lent : List ℕ
   pub failed : Bool
+  pub errors : ℕ
 
 -- both slots
 pub record FileSlots : Type 0 where
@@ -32,6 +36,11 @@ abbrev pub failed_in : Option FileView → Bool
 failed_in None = false
 failed_in (Some file) = file.failed
 
+-- how many reads of the file failed
+abbrev pub errors_in : Option FileView → ℕ
+errors_in None = 0
+errors_in (Some file) = file.errors
+
 -- what a slot still gives: the rest of the window, and then what is left in the file
 abbrev pub left_of : Option FileView → Window → Option (List ℕ)
 left_of file window = prepend_known (unread_in window) (left_in file)
@@ -42,6 +51,7 @@ no_file = record {
   told = record { left = Some []; ended = false; attached = None; faults = 0 };
   lent = [];
   failed = false;
+  errors = 0;
 }
 
 -- both slots before their first attach

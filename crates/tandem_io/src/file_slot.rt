@@ -5,8 +5,8 @@ ghost use Rattle.std.specs.Prelude.{OnOk, OnErr, IfOk, IsOk, IsErrAnd, is_err, O
 ghost use Rattle.std.specs.IoError.{error_kind};
 ghost use Rattle.std.specs.Io.{ReadsAtMost};
 ghost use Rattle.std.specs.Io.KnownBytes.{Consumes, IsAtEnd, Keeps, ReadConsumes};
-ghost use Rattle.tandem_io.specs.Causes.{HasCause, answered_end};
-ghost use Rattle.tandem_io.specs.FileSlot.{left_of, left_in, failed_in};
+ghost use Rattle.tandem_io.specs.Causes.{HasCause, answered_end, count_after};
+ghost use Rattle.tandem_io.specs.FileSlot.{left_of, left_in, failed_in, errors_in};
 ghost use Rattle.tandem_io.specs.Inputs.{last_answer};
 ghost use Rattle.tandem_io.specs.Told.{BeginsWith};
 ghost use Rattle.tandem_io.specs.Window.{unread_in};
@@ -29,7 +29,7 @@ pub(super) struct FileSlot<F: Read> {
 }
 
 impl<F: Read> Model for FileSlot<F> {
-    ghost use Rattle.tandem_io.specs.FileSlot.{FileSlotView, IsSound, left_of, failed_in};
+    ghost use Rattle.tandem_io.specs.FileSlot.{FileSlotView, IsSound, left_of, failed_in, errors_in};
     ghost use Rattle.tandem_io.specs.Window.{unread_in};
 
     ghost Value = { FileSlotView };
@@ -38,6 +38,7 @@ impl<F: Read> Model for FileSlot<F> {
       told = record { left = left_of s.file s.window; ended = s.ended; attached = s.attached; faults = s.faults };
       lent = unread_in s.window;
       failed = failed_in s.file;
+      errors = errors_in s.file;
     } };
 
     ghost invariant = { λ s. IsSound s.attached s.file s.window };
@@ -67,6 +68,7 @@ impl<F: Read + Drop> FileSlot<F> {
         ensures kept { OnErr opened (self.new.told.left ≡ self.old.told.left) }
         ensures ended { self.new.told.ended ≡ self.old.told.ended }
         ensures attached { self.new.told.attached ≡ last_answer self.old.told.attached result }
+        ensures faults { self.new.told.faults ≡ count_after self.old.told.faults result }
         ensures cause { HasCause self.old.told.faults self.new.told.faults result }
         ensures count { self.old.told.faults ≤ self.new.told.faults }
     {
@@ -100,6 +102,8 @@ impl<F: Read + Drop> FileSlot<F> {
         ensures cause { HasCause self.old.told.faults self.new.told.faults result }
         ensures count { self.old.told.faults ≤ self.new.told.faults }
         ensures failed { is_err result ≡ self.new.failed }
+        ensures errors { self.new.errors ≡ count_after self.old.errors result }
+        ensures faults { self.new.told.faults ≡ count_after self.old.told.faults result }
     {
         match read_on(&mut self.file, &mut self.window) {
             Ok(()) => {
@@ -145,6 +149,7 @@ fn read_on<F: Read + Drop>(file: &mut Option<Reader<F>>, window: &mut Window) ->
     ensures file { file.old ≡ None → file.new ≡ None }
     ensures window { file.old ≡ None → unread_in window.new ≡ unread_in window.old }
     ensures failed { failed_in file.new ≡ is_err result }
+    ensures errors { errors_in file.new ≡ count_after (errors_in file.old) result }
     ensures drained { OnErr result (unread_in window.new ≡ []) }
 {
     match file {

@@ -4,6 +4,7 @@ ghost use Rattle.std.specs.Prelude.{◌≡◌, ◌+◌, ◌-◌, ◌<◌, ◌≤
 ghost use Rattle.std.specs.Prelude.{IfOk, OnOk, OnErr, is_err};
 ghost use Rattle.std.specs.Io.{ReadsAtMost};
 ghost use Rattle.std.specs.Io.KnownBytes.{Consumes, IsAtEnd, Keeps};
+ghost use Rattle.tandem_io.specs.Causes.{count_after};
 
 use super::reader::Reader;
 use std::io::{self, Read};
@@ -58,6 +59,7 @@ impl Window {
         ensures err { OnErr result (Keeps file.old.left file.new.left) }
         ensures empty { OnErr result (unread_in self.new ≡ []) }
         ensures failed { file.new.failed ≡ is_err result }
+        ensures errors { file.new.errors ≡ count_after file.old.errors result }
     {
         self.start = 0;
         self.end = 0;
@@ -103,6 +105,7 @@ fn read_piece<F: Read + Drop>(file: &mut Reader<F>, bytes: &mut [u8; PIECE]) -> 
     ensures end { IfOk result (λ n. n ≡ 0 → IsAtEnd file.new.left) }
     ensures err { OnErr result (Keeps file.old.left file.new.left) }
     ensures failed { file.new.failed ≡ is_err result }
+    ensures errors { file.new.errors ≡ count_after file.old.errors result }
 {
     file.read(&mut bytes[..])
 }
