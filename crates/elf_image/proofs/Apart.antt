@@ -53,8 +53,11 @@ none_hold a (b ∷ rest) x e held =
     let outside = apart_not a b x fails held in
     sum_by-cons (worth x) (load_range b) (map load_range rest)
     ∙ ap (λ n. n + sum_by (worth x) (map load_range rest)) (cond-false (range_holds x (load_range b)) 1 0 outside)
-    ∙ omega (arith, none_hold a rest x
-    (sym (cond-false (shares_address a b) (Some b) (find (shares_address a) rest) fails) ∙ e) held)
+    ∙ omega (
+      arith,
+      none_hold a rest x
+          (sym (cond-false (shares_address a b) (Some b) (find (shares_address a) rest) fails) ∙ e) held,
+    )
 
 -- where no two segments meet, at most one holds x
 hold_once : (loads : List ProgramHeader) (x : ℕ) → overlap_fault loads ≡ None

@@ -56,8 +56,8 @@ unfoldable pub word_at : Loaded → ℕ → Option ℕ
 word_at image addr =
     if nat_le addr (2 ^ 64 - 4)
     then
-        word_of_bytes (image.byte_at addr) (image.byte_at (addr + 1)) (image.byte_at (addr + 2))
-        (image.byte_at (addr + 3))
+    word_of_bytes (image.byte_at addr) (image.byte_at (addr + 1)) (image.byte_at (addr + 2))
+    (image.byte_at (addr + 3))
     else None
 
 -- every byte of the extent is in a range

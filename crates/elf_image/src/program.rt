@@ -9,8 +9,8 @@ ghost use Rattle.elf_image.specs.Elf.{overlap_fault, segment_fault};
 
 use crate::fault::ImageFault;
 use crate::header::{ENTRY_SIZE, header_count, table_offset};
-use tandem_base::{u32_at, u64_at};
 use std::alloc::{AllocError, Global};
+use tandem_base::{u32_at, u64_at};
 
 /// The type of a segment that is loaded, PT_LOAD.
 const LOAD: u32 = 1;

@@ -10,10 +10,10 @@ ghost use Rattle.msg_frames.specs.Kinds.{has_length};
 ghost use Rattle.tandem_base.specs.FirstFault.{passed};
 ghost use Rattle.tandem_base.specs.Fields.{u16_at};
 
-use tandem_base::{u16_at, u64_at};
 use super::kinds::Kind;
 use super::message::{Form, FrameFault};
 use tandem_base::csrs::{MCAUSE, MEPC, MIE, MSCRATCH, MSTATUS, MTVAL, MTVEC};
+use tandem_base::{u16_at, u64_at};
 
 /// The fault of this form at this offset.
 pub(crate) fn fault(form: Form, offset: u16) -> FrameFault

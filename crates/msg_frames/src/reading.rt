@@ -10,13 +10,12 @@ ghost use Rattle.msg_frames.specs.Reading.{is_length, is_whole, reading};
 
 use super::checks::{check_fields, fault, has_rd, has_trap};
 use super::csrs::{CsrList, CsrValue};
-use tandem_base::{u16_at, u32_at, u64_at};
 use super::kinds::{Kind, kind_coded};
 use super::message::{
     Body, Form, FrameFault, Head, LineWrite, Message, OpenInfo, Piece, Poke, RdValue, Retire,
     Target,
 };
-use tandem_base::Bytes8;
+use tandem_base::{Bytes8, u16_at, u32_at, u64_at};
 
 fn head_in(frame: &[u8]) -> Head
     requires { 20 ≤ length frame.now }

@@ -8,9 +8,9 @@ ghost use Rattle.msg_frames.specs.Reading.{is_length};
 
 use super::checks::fault;
 use super::codec::decode_into;
-use tandem_base::u16_at;
 use super::message::{Form, FrameFault, Message};
 use super::reading::is_length;
+use tandem_base::u16_at;
 use tandem_io::{Failed, Source};
 
 /// What comes next from a source.

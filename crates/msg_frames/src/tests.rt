@@ -268,10 +268,7 @@ fn listed(alloc: Global, frame: &[u8]) -> Result<Option<(usize, u64)>, AllocErro
         list.push(message)?;
     }
     streams_are_cut_frame_by_frame();
-    Ok(
-        list.get(0)
-            .map(|message| (list.len(), message.head.tag)),
-    )
+    Ok(list.get(0).map(|message| (list.len(), message.head.tag)))
 }
 
 #[test]
