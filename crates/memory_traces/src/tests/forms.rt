@@ -1,6 +1,6 @@
 //! The test that a trace is in form, as `plain_judge` wants it.
 ghost use Rattle.std.specs.Prelude.{◌≡◌, ◌++◌, is_some};
-ghost use Rattle.rvwmo_model.specs.InsnKinds.{is_lr};
+ghost use Rattle.rv_decode.specs.Kinds.{is_lr};
 ghost use Rattle.rvwmo_model.specs.ProgramOrder.{insn_at, is_one};
 ghost use Rattle.std.specs.List.{list_any, list_all};
 ghost use Rattle.memory_traces.specs.FormTest;
