@@ -1,0 +1,76 @@
+-- The completed trace of a list of messages. The list has the newest first.
+use Rattle.std.specs.Prelude.{ℕ, List, [], ◌∷◌, length, map, replicate, None, Some}
+use Rattle.std.specs.declared.option.Option.{Option}
+use Rattle.std.specs.Option.{option_map_or}
+use Rattle.msg_frames.specs.declared.message.Head.{Head}
+use Rattle.msg_frames.specs.declared.message.OpenInfo.{OpenInfo}
+use Rattle.msg_frames.specs.declared.message.Body.{Body}
+use Rattle.msg_frames.specs.declared.message.Body.TheVariants as body
+use Rattle.msg_frames.specs.declared.message.Message.{Message}
+use Rattle.elf_image.specs.Images.{Loaded}
+use Rattle.rvwmo_model.specs.declared.operations.Op.{Op}
+use Rattle.rvwmo_model.specs.declared.operations.OpKind.TheVariants as kind
+use Rattle.rvwmo_model.specs.declared.operations.Ann.TheVariants as ann
+use Rattle.rvwmo_model.specs.declared.traces.Trace.{Trace}
+use Rattle.trace_model.specs.Extents.{extent_of}
+use Rattle.trace_model.specs.Entries.{Entry, Places, built}
+use Rattle.trace_model.specs.Fates.{fate, place_of}
+use Rattle.trace_model.specs.Reports.{Report, live, early}
+use Rattle.trace_model.specs.Retirements.{bypass_op, entry_of}
+use Rattle.trace_model.specs.Steps.{doing_at, stored_at}
+
+-- the entry that a message adds: that of a Retire
+abbrev pub entry_in : Loaded → List Message → Head → Body → Option Entry
+entry_in image before head (body.Open info) = None
+entry_in image before head (body.Poke poke) = None
+entry_in image before head (body.Read piece) = None
+entry_in image before head (body.Insert piece) = None
+entry_in image before head (body.Write write) = None
+entry_in image before head (body.Bypass piece) = None
+entry_in image before head (body.Retire retire) =
+    entry_of (live before head.hart) (early before) head (stored_at image before head retire)
+    (doing_at image before head.hart)
+entry_in image before head body.Squash = None
+entry_in image before head body.End = None
+
+-- one entry more, where there is one
+abbrev pub with_entry : Option Entry → List Entry → List Entry
+with_entry None es = es
+with_entry (Some e) es = e ∷ es
+
+-- the instructions that retired without a trap, with what they did to memory; the newest first
+abbrev pub entries : Loaded → List Message → List Entry
+entries image [] = []
+entries image (m ∷ before) = with_entry (entry_in image before m.head m.body) (entries image before)
+
+-- where each byte of each plain store was performed
+abbrev pub places : List Message → Places
+places before h t x = place_of (fate before h t x)
+
+-- an early Bypass as a store: its instruction has not retired, so it has no annotation yet
+abbrev pub early_op : Report → Op
+early_op r =
+    let extent = extent_of r.piece.addr (length r.piece.bytes) in
+    bypass_op kind.Store extent (replicate extent.len 0) ann.None ann.None r
+
+-- the granule that an Open says
+abbrev pub granule_in : ℕ → Body → ℕ
+granule_in old (body.Open info) = info.granule
+granule_in old (body.Poke poke) = old
+granule_in old (body.Read piece) = old
+granule_in old (body.Insert piece) = old
+granule_in old (body.Write write) = old
+granule_in old (body.Bypass piece) = old
+granule_in old (body.Retire retire) = old
+granule_in old body.Squash = old
+granule_in old body.End = old
+
+-- the size of the block that a reservation covers, as the Open says
+abbrev pub granule_of : List Message → ℕ
+granule_of [] = 0
+granule_of (m ∷ before) = granule_in (granule_of before) m.body
+
+-- the completed trace of the messages
+abbrev pub trace_of : Loaded → List Message → Trace
+trace_of image before =
+    built (entries image before) (places before) (map early_op (early before)) (granule_of before)
