@@ -1,1 +1,5 @@
+pub mod AreEntries
+pub mod Entries
+pub mod Groups
 pub mod Lists
+pub mod Performed
