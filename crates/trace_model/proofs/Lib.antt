@@ -1,5 +1,12 @@
+pub mod Appends
 pub mod AreEntries
+pub mod Early
 pub mod Entries
+pub mod Facts
 pub mod Groups
 pub mod Lists
+pub mod Past
 pub mod Performed
+pub mod Retires
+pub mod Waits
+pub mod Writes

@@ -1,0 +1,163 @@
+-- The places of a trace are those of messages that were.
+use Rattle.std.proofs.Common.{ℕ, ◌+◌, ◌<◌, ◌≤◌, ◌≡◌, ◌⊎◌, inl, inr, Bool, true, false, eqb, ◌&&◌, List, [], ◌∷◌, length, map, Option, Some, None, refl, sym, ap, subst, ◌∙◌, arith}
+use Rattle.std.proofs.lemmas.Bool.Decides.{nat_tests}
+use Rattle.tandem_base.specs.declared.extent.Extent.{Extent}
+use Rattle.tandem_base.specs.declared.names.Place.{Place}
+use Rattle.tandem_base.specs.Places.{earlier}
+use Rattle.msg_frames.specs.declared.message.Head.{Head}
+use Rattle.msg_frames.specs.declared.message.Body.{Body}
+use Rattle.msg_frames.specs.declared.message.Body.TheVariants as body
+use Rattle.msg_frames.specs.declared.message.Message.{Message}
+use Rattle.elf_image.specs.Images.{Loaded}
+use Rattle.rv_decode.specs.declared.instruction.Insn.{Insn}
+use Rattle.rv_step.specs.Steps.{Doing, trap, plain, counter, load, store, lr, sc, amo}
+use Rattle.rvwmo_model.specs.declared.operations.Op.{Op}
+use Rattle.rvwmo_model.specs.declared.operations.OpKind.{OpKind}
+use Rattle.rvwmo_model.specs.declared.operations.Ann.{Ann}
+use Rattle.rvwmo_model.specs.Order.{everything}
+use Rattle.trace_model.specs.Fates.{Fate, Nothing, Waiting, Done, has, number_after, fate, place_of}
+use Rattle.trace_model.specs.Reports.{Report, is_report, latest, counting, live, early, place_of_report, place_counted}
+use Rattle.trace_model.specs.Steps.{doing_at, stored_at, last_time}
+use Rattle.trace_model.specs.Extents.{extent_of}
+use Rattle.trace_model.specs.Entries.{MemoryUse, Fixed, Entry}
+use Rattle.trace_model.specs.Retirements.{load_access, read_places, load_ops, atomic_ops, amo_ops, sc_ops, entry_of}
+use Rattle.trace_model.specs.Traces.{entry_in, with_entry, entries, places, early_op, trace_of}
+use Rattle.trace_model.proofs.Lists.{In, in_cases, from_map}
+use Rattle.trace_model.proofs.Groups.{part_from}
+use Rattle.trace_model.proofs.Entries.{Comes, is_fixed, is_stored, comes}
+use Rattle.trace_model.proofs.Performed.{IsBelow}
+use Rattle.trace_model.proofs.Early.{latest_in}
+use Rattle.trace_model.proofs.Facts.{fate_all, live_all, early_all}
+
+-- time doesn't fall
+abbrev pub Timed : List Message → Type 0
+Timed [] = Unit {0}
+Timed (m ∷ before) = Timed before × (last_time before ≤ m.head.time)
+
+abbrev pub IsPast : List Message → Place → Type 0
+IsPast before q = (q.time ≤ last_time before) × (q.message ≤ length before)
+
+-- the same, where time doesn't fall
+abbrev WasPast : List Message → Place → Type 0
+WasPast before q = Timed before → IsPast before q
+
+past_on : (before : List Message) (m : Message) (q : Place) → WasPast before q → WasPast (m ∷ before) q
+past_on before m q p c = let r = p c.0 in (omega (arith, r.0, c.1), omega (arith, r.1))
+
+pub fate_past : (before : List Message) (h t x : ℕ) (q : Place) → fate before h t x ≡ Done q → WasPast before q
+fate_past = fate_all WasPast (record {
+  on = past_on;
+  drain = λ before head write j c. (omega arith, omega arith);
+  bypass = λ before head piece c. (omega arith, omega arith);
+})
+
+pub live_past : (before : List Message) (h : ℕ) (r : Report) → In r (live before h) → WasPast before (place_of_report r) × (r.hart ≡ h)
+live_past = live_all (λ before h r. WasPast before (place_of_report r) × (r.hart ≡ h)) (record {
+  on = λ before m h r y. (past_on before m (place_of_report r) y.0, y.1);
+  read = λ before head piece. (λ c. (omega arith, omega arith), refl);
+})
+
+pub early_past : (before : List Message) (r : Report) → In r (early before) → WasPast before (place_of_report r)
+early_past = early_all (λ before r. WasPast before (place_of_report r)) (record {
+  on = λ before m r y. past_on before m (place_of_report r) y;
+  bypass = λ before head piece e c. (omega arith, omega arith);
+})
+
+-- ---- operations that stay as they are
+
+-- what P says of the places of live Reads and early Bypasses it says of the operations made of them
+module _ (P : Place → Type 0) (rs bs : List Report) (live_p : (r : Report) → In r rs → P (place_of_report r)) (early_p : (r : Report) → In r bs → P (place_of_report r)) where
+  abbrev IsFixedAt : MemoryUse → Type 0
+  IsFixedAt m = (ops : List Op) (v : Op) (q : Place) → m ≡ Fixed ops → In v ops → v.place ≡ Some q → P q
+
+  counted_at : (t x : ℕ) (q : Place) → place_counted (counting rs t x) ≡ Some q → P q
+  counted_at t x q e = at (counting rs t x) refl e
+    where
+      at : (o : Option Report) → counting rs t x ≡ o → place_counted o ≡ Some q → P q
+      at None f e = absurd (cc)
+      at (Some r) f e = subst P (let s : place_of_report r ≡ q = cc in s) (live_p r (latest_in (λ (s : Report). eqb s.tag t && has s.piece x) rs r f).0)
+
+  loads_at : (head : Head) (insn : Insn) (extent : Extent) → IsFixedAt (Fixed (load_ops rs head insn extent))
+  loads_at head insn extent ops v q d i f =
+      let l : ops ≡ load_ops rs head insn extent = cc in
+      let y = part_from (load_access rs head insn extent) (read_places rs head.tag extent) extent.len v (subst (λ (z : List Op). In v z) l i) in
+      counted_at head.tag (extent.addr + y.0) q (sym (ap (λ (z : Op). z.place) y.2) ∙ f)
+
+  atomic_at : (p : Report → Bool) (k : OpKind) (extent : Extent) (got : List ℕ) (aq rl : Ann) → IsFixedAt (Fixed (atomic_ops k extent got aq rl (latest p bs)))
+  atomic_at p k extent got aq rl ops v q d i f =
+      let l : ops ≡ atomic_ops k extent got aq rl (latest p bs) = cc in
+      at (latest p bs) refl (subst (λ (z : List Op). In v z) l i)
+    where
+      at : (o : Option Report) → latest p bs ≡ o → In v (atomic_ops k extent got aq rl o) → P q
+      at None s i = absurd i
+      at (Some r) s (inr i) = absurd i
+      at (Some r) s (inl e) =
+          let z : Some (place_of_report r) ≡ Some q = sym (ap (λ (w : Op). w.place) e) ∙ f in
+          subst P (let y : place_of_report r ≡ q = cc in y) (early_p r (latest_in p bs r s).0)
+
+  nothing_at : IsFixedAt (Fixed [])
+  nothing_at ops v q d i f = absurd (subst (λ (l : List Op). In v l) (let z : ops ≡ [] = cc in z) i)
+
+  pub entry_at : (head : Head) (put : List ℕ) (d : Doing) (e : Entry) → entry_of rs bs head put d ≡ Some e → IsFixedAt e.memory
+  entry_at head put (trap cause value) e s = absurd (cc)
+  entry_at head put (plain insn) e s = let m : Fixed [] ≡ e.memory = cc in subst IsFixedAt m nothing_at
+  entry_at head put (counter insn) e s = let m : Fixed [] ≡ e.memory = cc in subst IsFixedAt m nothing_at
+  entry_at head put (load insn addr len) e s = let m : Fixed (load_ops rs head insn (extent_of addr len)) ≡ e.memory = cc in subst IsFixedAt m (loads_at head insn (extent_of addr len))
+  entry_at head put (store insn addr len) e s = λ ops v q d i f. absurd (cc)
+  entry_at head put (lr insn addr len) e s = let m : Fixed (load_ops rs head insn (extent_of addr len)) ≡ e.memory = cc in subst IsFixedAt m (loads_at head insn (extent_of addr len))
+  entry_at head put (sc insn addr len) e s = let m : Fixed (sc_ops bs head insn (extent_of addr len)) ≡ e.memory = cc in subst IsFixedAt m (atomic_at _ _ _ _ _ _)
+  entry_at head put (amo insn addr len) e s = let m : Fixed (amo_ops rs bs head insn (extent_of addr len)) ≡ e.memory = cc in subst IsFixedAt m (atomic_at _ _ _ _ _ _)
+
+pub with_cases : (o : Option Entry) (es : List Entry) (e : Entry) → In e (with_entry o es) → In e es ⊎ (o ≡ Some e)
+with_cases None es e i = inl i
+with_cases (Some f) es e (inl s) = inr (ap Some (sym s))
+with_cases (Some f) es e (inr i) = inl i
+
+pub with_more : (o : Option Entry) (es : List Entry) (e : Entry) → In e es → In e (with_entry o es)
+with_more None es e i = i
+with_more (Some f) es e i = inr i
+
+-- operations that stay as they are have places of the past
+abbrev IsFixedPast : List Message → Entry → Type 0
+IsFixedPast before e = IsFixedAt (IsPast before) [] [] (λ r i. absurd i) (λ r i. absurd i) e.memory
+
+pub entries_past : (image : Loaded) (before : List Message) → Timed before → (e : Entry) → In e (entries image before) → IsFixedPast before e
+entries_past image [] c e i ops v q d j f = absurd i
+entries_past image (m ∷ before) c e i ops v q d j f = elim (with_cases (entry_in image before m.head m.body) (entries image before) e i) [
+  | inl k ↦ on (entries_past image before c.0 e k ops v q d j f)
+  | inr s ↦ at m.body s
+]
+  where
+    on : IsPast before q → IsPast (m ∷ before) q
+    on r = (omega (arith, r.0, c.1), omega (arith, r.1))
+
+    at : (b : Body) → entry_in image before m.head b ≡ Some e → IsPast (m ∷ before) q
+    at (body.Retire retire) s =
+        on (entry_at (IsPast before) (live before m.head.hart) (early before) (λ r i. (live_past before m.head.hart r i).0 c.0) (λ r i. early_past before r i c.0)
+        m.head (stored_at image before m.head retire) (doing_at image before m.head.hart) e s ops v q d j f)
+    at _ s = absurd (cc)
+
+pub done_of : (x : Fate) (q : Place) → place_of x ≡ Some q → x ≡ Done q
+done_of Nothing q e = absurd (cc)
+done_of (Waiting j) q e = absurd (cc)
+done_of (Done p) q e = let s : p ≡ q = cc in ap Done s
+
+-- all places of a trace are past
+pub all_past : (image : Loaded) (before : List Message) → Timed before → (v : Op) (q : Place) → In v (everything (trace_of image before)) → v.place ≡ Some q → IsPast before q
+all_past image before c v q i f = elim (in_cases (trace_of image before).ops (map early_op (early before)) v i) [
+  | inl a ↦ of_entry (comes (places before) (entries image before) v a)
+  | inr b ↦ let y = from_map early_op (early before) v b in subst (IsPast before) (let s : place_of_report y.0 ≡ q = let z : Some (place_of_report y.0) ≡ Some q = sym (ap (λ (w : Op). w.place) y.2) ∙ f in cc in s) (early_past before y.0 y.1 c)
+]
+  where
+    of_entry : Comes (places before) (entries image before) v → IsPast before q
+    of_entry (is_fixed e ops i d h) = entries_past image before c e i ops v q d h f
+    of_entry (is_stored e a k i d l s) = fate_past before a.hart a.tag (a.extent.addr + k) q (done_of (fate before a.hart a.tag (a.extent.addr + k)) q (sym (ap (λ (z : Op). z.place) s) ∙ f)) c
+
+-- so all of them come before a place of the next message
+pub all_below : (image : Loaded) (before : List Message) → Timed before → (time j : ℕ) → last_time before ≤ time → IsBelow (trace_of image before) (record { time = time; message = number_after before; insert = j })
+all_below image before c time j up v q i f =
+    let p = all_past image before c v q i f in
+    ahead q time (length before + 1) j (omega (arith, p.0, up)) (omega (arith, p.1))
+  where
+    ahead : (q : Place) (time n j : ℕ) → q.time ≤ time → q.message < n → earlier q (record { time = time; message = n; insert = j }) ≡ true
+    ahead q time n j a b = grind (arith, nat_tests)
