@@ -15,7 +15,8 @@ use Rattle.rvwmo_model.specs.InForm.{AreRising}
 use Rattle.growth_laws.specs.Growth.{Same, Performs, no_parts, more_parts}
 use Rattle.std.specs.List.{AllPairs}
 use Rattle.trace_model.specs.Groups.{Access}
-use Rattle.trace_model.specs.Fates.{Fate, Nothing, Waiting, Done, Held, has, line_of, number_after, is_of, is_early, waiting, drained, fate, place_of, Fits, Clean}
+use Rattle.trace_model.specs.Fates.{Fate, Nothing, Waiting, Done, Held, has, line_of, number_after, is_of, is_early, waiting, drained, fate, place_of}
+use Rattle.trace_model.proofs.Fresh.{IsFreshAt, AreFresh}
 use Rattle.trace_model.specs.Entries.{Entry, Stores, Places, built}
 use Rattle.trace_model.specs.Reports.{Report, early}
 use Rattle.elf_image.specs.Images.{Loaded}
@@ -49,7 +50,7 @@ module _ (image : Loaded) (before : List Message) (head : Head) where
   squash_same settled = same_self old settled.0 settled.1
 
   -- an Insert leaves the places of bytes
-  insert_places : (piece : Piece) → Fits before head (body.Insert piece) → (h t x : ℕ) → places (record { head = head; body = body.Insert piece } ∷ before) h t x ≡ places before h t x
+  insert_places : (piece : Piece) → IsFreshAt before head (body.Insert piece) → (h t x : ℕ) → places (record { head = head; body = body.Insert piece } ∷ before) h t x ≡ places before h t x
   insert_places piece fits h t x = at (is_of head h t && has piece x) refl
     where
       at : (c : Bool) → (is_of head h t && has piece x) ≡ c → place_of (cond c (Waiting (number_after before)) (fate before h t x)) ≡ place_of (fate before h t x)
@@ -63,7 +64,7 @@ module _ (image : Loaded) (before : List Message) (head : Head) where
   places_ext : (g g' : Places) → ((h t x : ℕ) → g h t x ≡ g' h t x) → g ≡ g'
   places_ext g g' e = λ i h t x. e h t x i
 
-  pub insert_same : (piece : Piece) → Fits before head (body.Insert piece) → IsSettled old → Same old (new (body.Insert piece))
+  pub insert_same : (piece : Piece) → IsFreshAt before head (body.Insert piece) → IsSettled old → Same old (new (body.Insert piece))
   insert_same piece fits settled =
       subst (λ (g : Places). Same old (built (entries image before) g (map early_op (early before)) (granule_of before))) (sym (places_ext _ (places before) (insert_places piece fits))) (same_self old settled.0 settled.1)
 
@@ -81,7 +82,7 @@ module _ (image : Loaded) (before : List Message) (head : Head) where
     still_early = rw plain refl
 
     -- a plain Bypass performs bytes of one store
-    pub bypass_moves : (a : Access) → Fits before head (body.Bypass piece) → a.hart ≡ head.hart → a.tag ≡ head.tag
+    pub bypass_moves : (a : Access) → IsFreshAt before head (body.Bypass piece) → a.hart ≡ head.hart → a.tag ≡ head.tag
         → ((x : ℕ) → has piece x ≡ true → (a.extent.addr ≤ x) × (x < a.extent.addr + a.extent.len)) → (x : ℕ) × (has piece x ≡ true)
         → Moves (places before) after a here (has piece)
     bypass_moves a fits hart tag inside some = record {
@@ -107,7 +108,7 @@ module _ (image : Loaded) (before : List Message) (head : Head) where
             at true q = absurd (both_ways _ p (and_parts (is_of head h t) (has piece x) q).1)
             at false q = bypassed h t x false q
 
-    pub bypass_grows : (e : Entry) (a : Access) → AreEntries (entries image before) → In e (entries image before) → e.memory ≡ Stores a → Fits before head (body.Bypass piece) → a.hart ≡ head.hart → a.tag ≡ head.tag
+    pub bypass_grows : (e : Entry) (a : Access) → AreEntries (entries image before) → In e (entries image before) → e.memory ≡ Stores a → IsFreshAt before head (body.Bypass piece) → a.hart ≡ head.hart → a.tag ≡ head.tag
         → ((x : ℕ) → has piece x ≡ true → (a.extent.addr ≤ x) × (x < a.extent.addr + a.extent.len)) → (x : ℕ) × (has piece x ≡ true)
         → IsBelow old here → (parts : List Op) × Performs head.hart old parts (new (body.Bypass piece))
     bypass_grows e a good there stores fits hart tag inside some below =
@@ -122,7 +123,7 @@ module _ (image : Loaded) (before : List Message) (head : Head) where
   held_places write js h t x = placed_in head.time (number_after before) js (fate before h t x)
 
   -- a Write performs the Inserts of its line, one after the other
-  write_places : (write : LineWrite) → Clean before → (h t x : ℕ) → placed_in head.time (number_after before) (waiting before head.hart write.line) (fate before h t x) ≡ places (record { head = head; body = body.Write write } ∷ before) h t x
+  write_places : (write : LineWrite) → AreFresh before → (h t x : ℕ) → placed_in head.time (number_after before) (waiting before head.hart write.line) (fate before h t x) ≡ places (record { head = head; body = body.Write write } ∷ before) h t x
   write_places write clean h t x = at (fate before h t x) refl (eqb head.hart h && eqb write.line (line_of x)) refl
     where
       at : (f : Fate) → fate before h t x ≡ f → (c : Bool) → (eqb head.hart h && eqb write.line (line_of x)) ≡ c
@@ -158,7 +159,7 @@ module _ (image : Loaded) (before : List Message) (head : Head) where
   abbrev with_places : Places → Trace
   with_places g = built (entries image before) g (map early_op (early before)) (granule_of before)
 
-  pub write_grows : (write : LineWrite) → Clean before → AreEntries (entries image before) → ((e : Held) → In e (waiting before head.hart write.line) → IsStored (entries image before) head.hart e)
+  pub write_grows : (write : LineWrite) → AreFresh before → AreEntries (entries image before) → ((e : Held) → In e (waiting before head.hart write.line) → IsStored (entries image before) head.hart e)
       → ((j : ℕ) → IsBelow old (record { time = head.time; message = number_after before; insert = j })) → (parts : List Op) × Performs head.hart old parts (new (body.Write write))
   write_grows write clean good stored below =
       let from : held_places write [] ≡ places before = places_ext _ (places before) none_placed in

@@ -3,10 +3,14 @@ pub mod AreEntries
 pub mod Early
 pub mod Entries
 pub mod Facts
+pub mod Fresh
 pub mod Groups
+pub mod Known
 pub mod Lists
 pub mod Past
 pub mod Performed
 pub mod Retires
+pub mod Suits
+pub mod Tags
 pub mod Waits
 pub mod Writes

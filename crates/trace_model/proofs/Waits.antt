@@ -8,7 +8,8 @@ use Rattle.msg_frames.specs.declared.message.Body.TheVariants as body
 use Rattle.msg_frames.specs.declared.message.LineWrite.{LineWrite}
 use Rattle.msg_frames.specs.declared.message.Message.{Message}
 use Rattle.trace_model.proofs.Lists.{In, listed, contained}
-use Rattle.trace_model.specs.Fates.{Fate, Nothing, Waiting, Done, Held, has, line_of, number_after, is_of, is_early, waiting_in, waiting, drained, fate_in, fate, Fits, Clean}
+use Rattle.trace_model.specs.Fates.{Fate, Nothing, Waiting, Done, Held, has, line_of, number_after, is_of, is_early, waiting_in, waiting, drained, fate_in, fate}
+use Rattle.trace_model.proofs.Fresh.{IsFreshAt, AreFresh}
 
 -- the line of byte x holds an Insert of that byte with number j
 abbrev pub IsWaiting : List Held → ℕ → ℕ → ℕ → Type 0
@@ -36,8 +37,8 @@ pub record IsHeldBy (before : List Message) (head : Head) (b : Body) (h l : ℕ)
 same_piece : (b : Body) (p q : Piece) → b ≡ body.Insert p → b ≡ body.Insert q → p ≡ q
 same_piece b p q e f = let c : body.Insert p ≡ body.Insert q = sym e ∙ f in cc
 
-fits_line : (before : List Message) (head : Head) (b : Body) (piece : Piece) → b ≡ body.Insert piece → Fits before head b → (x : ℕ) → has piece x ≡ true → line_of x ≡ line_of piece.addr
-fits_line before head b piece e fits x p = (subst (λ (z : Body). Fits before head z) e fits).1 x p
+fits_line : (before : List Message) (head : Head) (b : Body) (piece : Piece) → b ≡ body.Insert piece → IsFreshAt before head b → (x : ℕ) → has piece x ≡ true → line_of x ≡ line_of piece.addr
+fits_line before head b piece e fits x p = (subst (λ (z : Body). IsFreshAt before head z) e fits).1 x p
 
 module _ (before : List Message) (head : Head) (h t x j : ℕ) where
   abbrev Old : Type 0
@@ -46,7 +47,7 @@ module _ (before : List Message) (head : Head) (h t x j : ℕ) where
   abbrev Now : Body → Type 0
   Now b = fate_in before (fate before h t x) head b h t x ≡ Waiting j → IsWaiting (waiting_in (number_after before) (waiting before h (line_of x)) head b h (line_of x)) t x j
 
-  insert_waits : (piece : Piece) → Fits before head (body.Insert piece) → Old → Now (body.Insert piece)
+  insert_waits : (piece : Piece) → IsFreshAt before head (body.Insert piece) → Old → Now (body.Insert piece)
   insert_waits piece fits old = at (is_of head h t && has piece x) refl
     where
       at : (c : Bool) → (is_of head h t && has piece x) ≡ c → cond c (Waiting (number_after before)) (fate before h t x) ≡ Waiting j
@@ -73,13 +74,13 @@ module _ (before : List Message) (head : Head) (h t x j : ℕ) where
       at false true q = absurd (cc)
       at false false q = old q
 
-  now_waits : (b : Body) → Fits before head b → Old → Now b
+  now_waits : (b : Body) → IsFreshAt before head b → Old → Now b
   now_waits (body.Insert piece) fits old = insert_waits piece fits old
   now_waits (body.Write write) fits old = write_waits write old
   now_waits (body.Bypass piece) fits old = bypass_waits piece old
   now_waits _ fits old = old
 
-pub waits : (before : List Message) → Clean before → (h t x j : ℕ) → fate before h t x ≡ Waiting j → IsWaiting (waiting before h (line_of x)) t x j
+pub waits : (before : List Message) → AreFresh before → (h t x j : ℕ) → fate before h t x ≡ Waiting j → IsWaiting (waiting before h (line_of x)) t x j
 waits [] c h t x j e = absurd (cc)
 waits (m ∷ before) c h t x j e = now_waits before m.head h t x j m.body c.1 (waits before c.0 h t x j) e
 
@@ -124,7 +125,7 @@ held_one (m ∷ before) h l g k d e i j q = at (held_now before m.head m.body h 
     at (inr a) (inr b) rec = rec a b q
 
 -- its bytes are those of the line
-pub held_line : (before : List Message) → Clean before → (h l : ℕ) (e : Held) (x : ℕ) → In e (waiting before h l) → has e.piece x ≡ true → line_of x ≡ l
+pub held_line : (before : List Message) → AreFresh before → (h l : ℕ) (e : Held) (x : ℕ) → In e (waiting before h l) → has e.piece x ≡ true → line_of x ≡ l
 held_line [] c h l e x i p = absurd i
 held_line (m ∷ before) c h l e x i p = elim (held_now before m.head m.body h l e i) [
   | inl n ↦ fits_line before m.head m.body n.piece n.inserts c.1 x (subst (λ (z : Held). has z.piece x ≡ true) n.is p) ∙ n.line
@@ -146,7 +147,7 @@ module _ (before : List Message) (head : Head) (h l x : ℕ) (e : Held) (p : has
       let w : Waiting e.number ≡ Nothing = sym (old i) ∙ f in
       absurd (cc)
 
-  insert_fate : (piece : Piece) → Fits before head (body.Insert piece) → Holds (body.Insert piece)
+  insert_fate : (piece : Piece) → IsFreshAt before head (body.Insert piece) → Holds (body.Insert piece)
   insert_fate piece fits i = at (held_now before head (body.Insert piece) h l e i)
     where
       kept : In e (waiting before h l) → (c : Bool) → (is_of head h e.tag && has piece x) ≡ c → cond c (Waiting (number_after before)) (fate before h e.tag x) ≡ Waiting e.number
@@ -167,7 +168,7 @@ module _ (before : List Message) (head : Head) (h l x : ℕ) (e : Held) (p : has
       at true q j = absurd j
       at false q j = rw (line j, q) (old j)
 
-  bypass_fate : (piece : Piece) → Fits before head (body.Bypass piece) → Holds (body.Bypass piece)
+  bypass_fate : (piece : Piece) → IsFreshAt before head (body.Bypass piece) → Holds (body.Bypass piece)
   bypass_fate piece fits i = at (is_early before head) refl (is_of head h e.tag && has piece x) refl
     where
       at : (c : Bool) → is_early before head ≡ c → (d : Bool) → (is_of head h e.tag && has piece x) ≡ d
@@ -176,12 +177,12 @@ module _ (before : List Message) (head : Head) (h l x : ℕ) (e : Held) (p : has
       at false q true r = absurd (stale piece (fits q) i r)
       at false q false r = old i
 
-  now_fate : (b : Body) → Fits before head b → Holds b
+  now_fate : (b : Body) → IsFreshAt before head b → Holds b
   now_fate (body.Insert piece) fits i = insert_fate piece fits i
   now_fate (body.Write write) fits i = write_fate write i
   now_fate (body.Bypass piece) fits i = bypass_fate piece fits i
   now_fate _ fits i = old i
 
-pub held_waits : (before : List Message) → Clean before → (h l : ℕ) (e : Held) (x : ℕ) → In e (waiting before h l) → has e.piece x ≡ true → fate before h e.tag x ≡ Waiting e.number
+pub held_waits : (before : List Message) → AreFresh before → (h l : ℕ) (e : Held) (x : ℕ) → In e (waiting before h l) → has e.piece x ≡ true → fate before h e.tag x ≡ Waiting e.number
 held_waits [] c h l e x i p = absurd i
 held_waits (m ∷ before) c h l e x i p = now_fate before m.head h l x e p (λ j. held_line before c.0 h l e x j p) (λ j. held_waits before c.0 h l e x j p) m.body c.1 i

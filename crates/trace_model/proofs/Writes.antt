@@ -14,7 +14,8 @@ use Rattle.tandem_base.specs.Places.{earlier}
 use Rattle.trace_model.proofs.Lists.{in_left, in_right, in_cases}
 use Rattle.growth_laws.specs.Growth.{Performs, no_parts, more_parts}
 use Rattle.trace_model.specs.Groups.{Access}
-use Rattle.trace_model.specs.Fates.{Fate, Nothing, Waiting, Done, Held, has, line_of, number_after, waiting_in, waiting, fate, Clean}
+use Rattle.trace_model.specs.Fates.{Fate, Nothing, Waiting, Done, Held, has, line_of, number_after, waiting_in, waiting, fate}
+use Rattle.trace_model.proofs.Fresh.{AreFresh}
 use Rattle.trace_model.specs.Entries.{Entry, Stores, Places, built}
 use Rattle.trace_model.proofs.AreEntries.{AreEntries}
 use Rattle.trace_model.proofs.Performed.{Moves, IsBelow, IsStep, steps}
@@ -86,7 +87,7 @@ pub record IsStored (es : List Entry) (h : ℕ) (e : Held) : Type 0 where
   pub inside : (x : ℕ) → has e.piece x ≡ true → (access.extent.addr ≤ x) × (x < access.extent.addr + access.extent.len)
   pub some : (x : ℕ) × (has e.piece x ≡ true)
 
-module _ (before : List Message) (clean : Clean before) (es : List Entry) (early : List Op) (granule : ℕ) (h l time : ℕ) (good : AreEntries es)
+module _ (before : List Message) (clean : AreFresh before) (es : List Entry) (early : List Op) (granule : ℕ) (h l time : ℕ) (good : AreEntries es)
     (stored : (e : Held) → In e (waiting before h l) → IsStored es h e) where
   abbrev n : ℕ
   n = number_after before

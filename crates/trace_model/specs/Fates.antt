@@ -102,26 +102,3 @@ abbrev pub place_of : Fate → Option Place
 place_of Nothing = None
 place_of (Waiting j) = None
 place_of (Done p) = Some p
-
--- the bytes of a piece of a store were in no message before
-abbrev pub IsFresh : List Message → Head → Piece → Type 0
-IsFresh before head piece = (x : ℕ) → has piece x ≡ true → fate before head.hart head.tag x ≡ Nothing
-
-abbrev pub IsInLine : Piece → Type 0
-IsInLine piece = (x : ℕ) → has piece x ≡ true → line_of x ≡ line_of piece.addr
-
--- what the faults on Inserts and plain Bypasses leave
-abbrev pub Fits : List Message → Head → Body → Type 0
-Fits before head (body.Open info) = Unit {0}
-Fits before head (body.Poke poke) = Unit {0}
-Fits before head (body.Read piece) = Unit {0}
-Fits before head (body.Insert piece) = IsFresh before head piece × IsInLine piece
-Fits before head (body.Write write) = Unit {0}
-Fits before head (body.Bypass piece) = is_early before head ≡ false → IsFresh before head piece
-Fits before head (body.Retire retire) = Unit {0}
-Fits before head body.Squash = Unit {0}
-Fits before head body.End = Unit {0}
-
-abbrev pub Clean : List Message → Type 0
-Clean [] = Unit {0}
-Clean (m ∷ before) = Clean before × Fits before m.head m.body
