@@ -15,10 +15,17 @@ use Rattle.rvwmo_model.specs.InForm.{AreRising}
 use Rattle.growth_laws.specs.Growth.{Same, Performs, no_parts, more_parts}
 use Rattle.std.specs.List.{AllPairs}
 use Rattle.trace_model.specs.Groups.{Access}
-use Rattle.trace_model.specs.Fates.{Fate, Nothing, Waiting, Done, Held, has, line_of, number_after, is_of, is_early, waiting, drained, fate, place_of}
+use Rattle.matching.specs.declared.stores.Fate.{Fate}
+use Rattle.matching.specs.declared.stores.Held.{Held}
+use Rattle.matching.specs.declared.reports.Report.{Report}
+use Rattle.matching.specs.declared.stores.Fate.TheVariants.{Nothing, Waiting, Done}
+use Rattle.matching.specs.Settings.{number_after}
+use Rattle.matching.specs.Pieces.{has, line_of}
+use Rattle.matching.specs.Tags.{is_of, is_early}
+use Rattle.matching.specs.Reports.{early}
+use Rattle.matching.specs.Fates.{waiting, drained, fate, place_of}
 use Rattle.trace_model.proofs.Fresh.{IsFreshAt, AreFresh}
 use Rattle.trace_model.specs.Entries.{Entry, Stores, Places, built}
-use Rattle.trace_model.specs.Reports.{Report, early}
 use Rattle.elf_image.specs.Images.{Loaded}
 use Rattle.trace_model.specs.Traces.{entries, places, early_op, granule_of, trace_of}
 use Rattle.trace_model.proofs.AreEntries.{AreEntries}

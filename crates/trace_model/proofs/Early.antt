@@ -27,8 +27,11 @@ use Rattle.rvwmo_model.proofs.Membership.{head_in, tail_in}
 use Rattle.rvwmo_model.proofs.Membership.{in_cases as in_first}
 use Rattle.elf_image.specs.Images.{Loaded}
 use Rattle.trace_model.specs.Groups.{mask_from}
-use Rattle.trace_model.specs.Fates.{number_after, is_early}
-use Rattle.trace_model.specs.Reports.{Report, report_of, is_report, latest, early, place_of_report}
+use Rattle.matching.specs.declared.reports.Report.{Report}
+use Rattle.matching.specs.Searches.{latest}
+use Rattle.matching.specs.Settings.{number_after}
+use Rattle.matching.specs.Tags.{is_early}
+use Rattle.matching.specs.Reports.{report_of, is_report, early, place_of_report}
 use Rattle.trace_model.specs.Entries.{built}
 use Rattle.trace_model.specs.Retirements.{bypass_access, bypass_op}
 use Rattle.trace_model.specs.Traces.{entries, places, early_extent, early_op, granule_of, trace_of}

@@ -11,8 +11,14 @@ use Rattle.msg_frames.specs.declared.message.Body.TheVariants as body
 use Rattle.msg_frames.specs.declared.message.Message.{Message}
 use Rattle.trace_model.proofs.Lists.{In, listed, contained}
 use Rattle.trace_model.proofs.Lists.{from_filter}
-use Rattle.trace_model.specs.Fates.{Fate, Nothing, Waiting, Done, has, line_of, number_after, is_of, is_early, drained, fate_in, fate}
-use Rattle.trace_model.specs.Reports.{Report, report_of, is_report, live_in, live, early_in, early}
+use Rattle.matching.specs.declared.stores.Fate.{Fate}
+use Rattle.matching.specs.declared.reports.Report.{Report}
+use Rattle.matching.specs.declared.stores.Fate.TheVariants.{Nothing, Waiting, Done}
+use Rattle.matching.specs.Settings.{number_after}
+use Rattle.matching.specs.Pieces.{has, line_of}
+use Rattle.matching.specs.Tags.{is_of, is_early}
+use Rattle.matching.specs.Reports.{report_of, is_report, live_in, live, early_in, early}
+use Rattle.matching.specs.Fates.{drained, fate_in, fate}
 
 -- what holds of the place of each new Done, and goes on, holds of each
 pub record OnDone (P : List Message → Place → Type 0) : Type 0 where

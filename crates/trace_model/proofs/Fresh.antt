@@ -5,7 +5,10 @@ use Rattle.msg_frames.specs.declared.message.Piece.{Piece}
 use Rattle.msg_frames.specs.declared.message.Body.{Body}
 use Rattle.msg_frames.specs.declared.message.Body.TheVariants as body
 use Rattle.msg_frames.specs.declared.message.Message.{Message}
-use Rattle.trace_model.specs.Fates.{Nothing, has, line_of, is_early, fate}
+use Rattle.matching.specs.declared.stores.Fate.TheVariants.{Nothing}
+use Rattle.matching.specs.Pieces.{has, line_of}
+use Rattle.matching.specs.Tags.{is_early}
+use Rattle.matching.specs.Fates.{fate}
 
 -- the bytes of a piece of a store were in no message before
 abbrev pub IsFresh : List Message → Head → Piece → Type 0

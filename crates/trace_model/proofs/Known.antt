@@ -8,7 +8,13 @@ use Rattle.msg_frames.specs.declared.message.Body.TheVariants as body
 use Rattle.msg_frames.specs.declared.message.Message.{Message}
 use Rattle.elf_image.specs.Images.{Loaded}
 use Rattle.trace_model.specs.Groups.{Access}
-use Rattle.trace_model.specs.Fates.{Fate, Nothing, Done, Held, has, line_of, number_after, is_of, is_early, waiting, drained, fate_in, fate}
+use Rattle.matching.specs.declared.stores.Fate.{Fate}
+use Rattle.matching.specs.declared.stores.Held.{Held}
+use Rattle.matching.specs.declared.stores.Fate.TheVariants.{Nothing, Done}
+use Rattle.matching.specs.Settings.{number_after}
+use Rattle.matching.specs.Pieces.{has, line_of}
+use Rattle.matching.specs.Tags.{is_of, is_early}
+use Rattle.matching.specs.Fates.{waiting, drained, fate_in, fate}
 use Rattle.trace_model.proofs.Fresh.{AreFresh, IsFreshAt}
 use Rattle.trace_model.specs.Entries.{Stores, Entry}
 use Rattle.trace_model.specs.Traces.{entry_in, with_entry, entries}

@@ -15,9 +15,16 @@ use Rattle.rvwmo_model.specs.declared.operations.Op.{Op}
 use Rattle.rvwmo_model.specs.declared.operations.OpKind.{OpKind}
 use Rattle.rvwmo_model.specs.declared.operations.Ann.{Ann}
 use Rattle.rvwmo_model.specs.Order.{everything}
-use Rattle.trace_model.specs.Fates.{Fate, Nothing, Waiting, Done, has, number_after, fate, place_of}
-use Rattle.trace_model.specs.Reports.{Report, is_report, latest, counting, live, early, place_of_report, place_counted}
-use Rattle.trace_model.specs.Steps.{doing_at, stored_at, last_time}
+use Rattle.matching.specs.declared.stores.Fate.{Fate}
+use Rattle.matching.specs.declared.reports.Report.{Report}
+use Rattle.matching.specs.declared.stores.Fate.TheVariants.{Nothing, Waiting, Done}
+use Rattle.matching.specs.Searches.{latest}
+use Rattle.matching.specs.Settings.{number_after, last_time}
+use Rattle.matching.specs.Pieces.{has}
+use Rattle.matching.specs.Reports.{is_report, is_for, counting, live, early, place_of_report, place_counted}
+use Rattle.matching.specs.Fates.{fate, place_of}
+use Rattle.matching.specs.Runs.{doing_at}
+use Rattle.trace_model.specs.Traces.{stored_at}
 use Rattle.trace_model.specs.Extents.{extent_of}
 use Rattle.trace_model.specs.Entries.{MemoryUse, Fixed, Entry}
 use Rattle.trace_model.specs.Retirements.{load_access, read_places, load_ops, atomic_ops, amo_ops, sc_ops, entry_of}
@@ -75,7 +82,7 @@ module _ (P : Place → Type 0) (rs bs : List Report) (live_p : (r : Report) →
     where
       at : (o : Option Report) → counting rs t x ≡ o → place_counted o ≡ Some q → P q
       at None f e = absurd (cc)
-      at (Some r) f e = subst P (let s : place_of_report r ≡ q = cc in s) (live_p r (latest_in (λ (s : Report). eqb s.tag t && has s.piece x) rs r f).0)
+      at (Some r) f e = subst P (let s : place_of_report r ≡ q = cc in s) (live_p r (latest_in (is_for t x) rs r f).0)
 
   loads_at : (head : Head) (insn : Insn) (extent : Extent) → IsFixedAt (Fixed (load_ops rs head insn extent))
   loads_at head insn extent ops v q d i f =

@@ -11,14 +11,18 @@ use Rattle.rv_decode.specs.declared.instruction.Insn.{Insn}
 use Rattle.rv_step.specs.Steps.{Doing, trap, plain, counter, load, store, lr, sc, amo}
 use Rattle.rv_step.specs.Promises.{is_load, is_store, is_lr, is_sc, is_amo}
 use Rattle.growth_laws.specs.Kinds.{kind_of_insn}
-use Rattle.trace_model.specs.Reports.{Report, is_report, live, early, counting}
-use Rattle.trace_model.specs.Fates.{has, is_early, is_younger, last_tag}
+use Rattle.matching.specs.declared.reports.Report.{Report}
+use Rattle.matching.specs.Settings.{last_time}
+use Rattle.matching.specs.Pieces.{has}
+use Rattle.matching.specs.Tags.{is_early, is_younger, last_tag}
+use Rattle.matching.specs.Reports.{is_report, live, early, counting}
+use Rattle.matching.specs.Runs.{doing_at}
+use Rattle.trace_model.specs.Traces.{stored_at}
 use Rattle.trace_model.proofs.Fresh.{IsFresh, IsInLine}
-use Rattle.trace_model.specs.Steps.{doing_at, stored_at, last_time}
 use Rattle.trace_model.specs.Extents.{is_extent}
 use Rattle.trace_model.specs.Groups.{Access}
 use Rattle.trace_model.specs.Entries.{Stores, Entry}
-use Rattle.trace_model.specs.Retirements.{bypass_of}
+use Rattle.matching.specs.Reports.{early_of}
 use Rattle.trace_model.specs.Traces.{entries}
 use Rattle.trace_model.proofs.Lists.{In}
 
@@ -90,7 +94,7 @@ pub record SuitsStore (early : List Report) (head : Head) (put : List ℕ) (insn
 -- the early Bypass of an instruction is over just its bytes
 pub record HasOver (early : List Report) (head : Head) (addr len : ℕ) : Type 0 where
   pub report : Report
-  pub is : bypass_of early head ≡ Some report
+  pub is : early_of early head.hart head.tag ≡ Some report
   pub over : IsOver addr len report
 
 -- what an instruction is to do suits what was reported
@@ -102,7 +106,7 @@ SuitsDoing live early head put (load insn addr len) = SuitsLoad live early head 
 SuitsDoing live early head put (store insn addr len) = SuitsStore early head put insn addr len × (is_store insn ≡ true)
 SuitsDoing live early head put (lr insn addr len) = SuitsLr live early head insn addr len × (is_lr insn ≡ true)
 SuitsDoing live early head put (sc insn addr len) =
-    ((bypass_of early head ≡ None) ⊎ HasOver early head addr len) × (is_sc insn ≡ true) × (is_extent addr len ≡ true)
+    ((early_of early head.hart head.tag ≡ None) ⊎ HasOver early head addr len) × (is_sc insn ≡ true) × (is_extent addr len ≡ true)
 SuitsDoing live early head put (amo insn addr len) =
     HasOver early head addr len × (is_amo insn ≡ true) × (is_extent addr len ≡ true)
 

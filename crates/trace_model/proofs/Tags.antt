@@ -12,9 +12,12 @@ use Rattle.msg_frames.specs.declared.message.Message.{Message}
 use Rattle.elf_image.specs.Images.{Loaded}
 use Rattle.rv_step.specs.Steps.{Doing, trap, plain, counter, load, store, lr, sc, amo}
 use Rattle.rvwmo_model.specs.declared.instructions.Retired.{Retired}
-use Rattle.trace_model.specs.Fates.{last_in, last_tag, is_younger, is_early, number_after}
-use Rattle.trace_model.specs.Reports.{Report, report_of, is_report, live, early_in, early}
-use Rattle.trace_model.specs.Steps.{doing_at, stored_at}
+use Rattle.matching.specs.declared.reports.Report.{Report}
+use Rattle.matching.specs.Settings.{number_after}
+use Rattle.matching.specs.Tags.{last_in, last_tag, is_younger, is_early}
+use Rattle.matching.specs.Reports.{report_of, is_report, live, early_in, early}
+use Rattle.matching.specs.Runs.{doing_at}
+use Rattle.trace_model.specs.Traces.{stored_at}
 use Rattle.trace_model.specs.Entries.{Entry, insns_of}
 use Rattle.trace_model.specs.Retirements.{entry_of}
 use Rattle.trace_model.specs.Traces.{entry_in, with_entry, entries}

@@ -8,7 +8,13 @@ use Rattle.msg_frames.specs.declared.message.Body.TheVariants as body
 use Rattle.msg_frames.specs.declared.message.LineWrite.{LineWrite}
 use Rattle.msg_frames.specs.declared.message.Message.{Message}
 use Rattle.trace_model.proofs.Lists.{In, listed, contained}
-use Rattle.trace_model.specs.Fates.{Fate, Nothing, Waiting, Done, Held, has, line_of, number_after, is_of, is_early, waiting_in, waiting, drained, fate_in, fate}
+use Rattle.matching.specs.declared.stores.Fate.{Fate}
+use Rattle.matching.specs.declared.stores.Held.{Held}
+use Rattle.matching.specs.declared.stores.Fate.TheVariants.{Nothing, Waiting, Done}
+use Rattle.matching.specs.Settings.{number_after}
+use Rattle.matching.specs.Pieces.{has, line_of}
+use Rattle.matching.specs.Tags.{is_of, is_early}
+use Rattle.matching.specs.Fates.{waiting_in, waiting, drained, fate_in, fate}
 use Rattle.trace_model.proofs.Fresh.{IsFreshAt, AreFresh}
 
 -- the line of byte x holds an Insert of that byte with number j

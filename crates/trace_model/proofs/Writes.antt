@@ -14,7 +14,12 @@ use Rattle.tandem_base.specs.Places.{earlier}
 use Rattle.trace_model.proofs.Lists.{in_left, in_right, in_cases}
 use Rattle.growth_laws.specs.Growth.{Performs, no_parts, more_parts}
 use Rattle.trace_model.specs.Groups.{Access}
-use Rattle.trace_model.specs.Fates.{Fate, Nothing, Waiting, Done, Held, has, line_of, number_after, waiting_in, waiting, fate}
+use Rattle.matching.specs.declared.stores.Fate.{Fate}
+use Rattle.matching.specs.declared.stores.Held.{Held}
+use Rattle.matching.specs.declared.stores.Fate.TheVariants.{Nothing, Waiting, Done}
+use Rattle.matching.specs.Settings.{number_after}
+use Rattle.matching.specs.Pieces.{has, line_of}
+use Rattle.matching.specs.Fates.{waiting_in, waiting, fate}
 use Rattle.trace_model.proofs.Fresh.{AreFresh}
 use Rattle.trace_model.specs.Entries.{Entry, Stores, Places, built}
 use Rattle.trace_model.proofs.AreEntries.{AreEntries}

@@ -1,5 +1,5 @@
 -- What an instruction adds to the trace when it retires.
-use Rattle.std.specs.Prelude.{ℕ, zero, suc, ◌+◌, ◌&&◌, List, [], ◌∷◌, replicate, Bool, true, false, None, Some}
+use Rattle.std.specs.Prelude.{ℕ, ◌+◌, ◌&&◌, List, [], ◌∷◌, replicate, Bool, true, false, None, Some}
 use Rattle.std.specs.Prelude.{is_some, if◌then◌else◌}
 use Rattle.std.specs.declared.option.Option.{Option}
 use Rattle.tandem_base.specs.declared.extent.Extent.{Extent}
@@ -14,7 +14,8 @@ use Rattle.rvwmo_model.specs.declared.operations.OpKind.{OpKind}
 use Rattle.rvwmo_model.specs.declared.operations.OpKind.TheVariants as kind
 use Rattle.rvwmo_model.specs.declared.operations.Ann.{Ann}
 use Rattle.rvwmo_model.specs.declared.operations.Ann.TheVariants as ann
-use Rattle.trace_model.specs.Reports.{Report, is_report, latest, counting, place_of_report, place_counted, byte_counted}
+use Rattle.matching.specs.declared.reports.Report.{Report}
+use Rattle.matching.specs.Reports.{early_of, counting, place_of_report, place_counted, bytes_counted}
 use Rattle.trace_model.specs.Extents.{extent_of}
 use Rattle.trace_model.specs.Groups.{Access, op_of, parts_of}
 use Rattle.trace_model.specs.Entries.{MemoryUse, Fixed, Stores, Entry}
@@ -42,16 +43,6 @@ release_of _ = ann.None
 
 -- ---- accesses
 
--- the n numbers that f gives of k and the numbers above
-abbrev pub bytes_from : (ℕ → ℕ) → ℕ → ℕ → List ℕ
-bytes_from f k zero = []
-bytes_from f k (suc n) = f k ∷ bytes_from f (suc k) n
-
--- the bytes that an extent of an instruction loads: those of the Reads that count
-abbrev pub loaded_bytes : List Report → ℕ → Extent → List ℕ
-loaded_bytes live t extent =
-    bytes_from (λ k. byte_counted (extent.addr + k) (counting live t (extent.addr + k))) 0 extent.len
-
 -- the access of a load or LR
 abbrev pub load_access : List Report → Head → Insn → Extent → Access
 load_access live head insn extent = record {
@@ -59,7 +50,7 @@ load_access live head insn extent = record {
   tag = head.tag;
   kind = kind.Load;
   extent = extent;
-  got = loaded_bytes live head.tag extent;
+  got = bytes_counted live head.tag extent.addr extent.len;
   put = replicate extent.len 0;
   acquire = acquire_of insn;
   release = release_of insn;
@@ -120,20 +111,16 @@ retired head insn stored = record { hart = head.hart; tag = head.tag; insn = ins
 abbrev pub entry : Head → Insn → Bool → MemoryUse → Entry
 entry head insn stored memory = record { insn = retired head insn stored; memory = memory }
 
--- the Bypass of an instruction, where it was performed before it retired
-abbrev pub bypass_of : List Report → Head → Option Report
-bypass_of early head = latest (is_report head.hart head.tag) early
-
 -- the operation of an AMO: it loads what its Reads brought, and stores what its Bypass says
 abbrev pub amo_ops : List Report → List Report → Head → Insn → Extent → List Op
 amo_ops live early head insn extent =
-    atomic_ops kind.Both extent (loaded_bytes live head.tag extent) (acquire_of insn) (release_of insn)
-    (bypass_of early head)
+    atomic_ops kind.Both extent (bytes_counted live head.tag extent.addr extent.len) (acquire_of insn) (release_of insn)
+    (early_of early head.hart head.tag)
 
 -- the operation of an SC that succeeded; none of one that failed
 abbrev pub sc_ops : List Report → Head → Insn → Extent → List Op
 sc_ops early head insn extent =
-    atomic_ops kind.Store extent (replicate extent.len 0) (acquire_of insn) (release_of insn) (bypass_of early head)
+    atomic_ops kind.Store extent (replicate extent.len 0) (acquire_of insn) (release_of insn) (early_of early head.hart head.tag)
 
 -- the entry of an instruction that retires, by what it is to do, the live Reads of its hart, the early Bypasses, and
 -- the bytes that a plain store stores; none where it traps
@@ -148,6 +135,6 @@ entry_of live early head put (store insn addr len) =
 entry_of live early head put (lr insn addr len) =
     Some (entry head insn false (Fixed (load_ops live head insn (extent_of addr len))))
 entry_of live early head put (sc insn addr len) =
-    Some (entry head insn (is_some (bypass_of early head)) (Fixed (sc_ops early head insn (extent_of addr len))))
+    Some (entry head insn (is_some (early_of early head.hart head.tag)) (Fixed (sc_ops early head insn (extent_of addr len))))
 entry_of live early head put (amo insn addr len) =
     Some (entry head insn false (Fixed (amo_ops live early head insn (extent_of addr len))))

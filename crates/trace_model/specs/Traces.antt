@@ -3,6 +3,10 @@ use Rattle.std.specs.Prelude.{ℕ, List, [], ◌∷◌, length, map, replicate, 
 use Rattle.std.specs.declared.option.Option.{Option}
 use Rattle.tandem_base.specs.declared.extent.Extent.{Extent}
 use Rattle.msg_frames.specs.declared.message.Head.{Head}
+use Rattle.msg_frames.specs.declared.message.OpenInfo.{OpenInfo}
+use Rattle.msg_frames.specs.declared.message.Piece.{Piece}
+use Rattle.msg_frames.specs.declared.message.Retire.{Retire}
+use Rattle.std.specs.Option.{option_map_or}
 use Rattle.msg_frames.specs.declared.message.Body.{Body}
 use Rattle.msg_frames.specs.declared.message.Body.TheVariants as body
 use Rattle.msg_frames.specs.declared.message.Message.{Message}
@@ -13,10 +17,21 @@ use Rattle.rvwmo_model.specs.declared.operations.Ann.TheVariants as ann
 use Rattle.rvwmo_model.specs.declared.traces.Trace.{Trace}
 use Rattle.trace_model.specs.Extents.{extent_of}
 use Rattle.trace_model.specs.Entries.{Entry, Places, built}
-use Rattle.trace_model.specs.Fates.{fate, place_of}
-use Rattle.trace_model.specs.Reports.{Report, live, early}
+use Rattle.matching.specs.declared.reports.Report.{Report}
+use Rattle.matching.specs.Reports.{live, early}
+use Rattle.matching.specs.Fates.{fate, place_of}
+use Rattle.matching.specs.Settings.{open_of}
+use Rattle.matching.specs.Runs.{doing_at, effect_at}
 use Rattle.trace_model.specs.Retirements.{bypass_op, entry_of}
-use Rattle.trace_model.specs.Steps.{doing_at, stored_at}
+
+-- the bytes of a store, none where there is none
+abbrev pub bytes_stored : Option Piece → List ℕ
+bytes_stored None = []
+bytes_stored (Some piece) = piece.bytes
+
+-- the bytes that the instruction of a Retire stores, as the model has them
+abbrev pub stored_at : Loaded → List Message → Head → Retire → List ℕ
+stored_at image before head retire = bytes_stored (effect_at image before head retire).store
 
 -- the entry that a message adds: that of a Retire
 abbrev pub entry_in : Loaded → List Message → Head → Body → Option Entry
@@ -54,22 +69,10 @@ early_extent r = extent_of r.piece.addr (length r.piece.bytes)
 abbrev pub early_op : Report → Op
 early_op r = bypass_op kind.Store (early_extent r) (replicate (early_extent r).len 0) ann.None ann.None r
 
--- the granule that an Open says
-abbrev pub granule_in : ℕ → Body → ℕ
-granule_in old (body.Open info) = info.granule
-granule_in old (body.Poke poke) = old
-granule_in old (body.Read piece) = old
-granule_in old (body.Insert piece) = old
-granule_in old (body.Write write) = old
-granule_in old (body.Bypass piece) = old
-granule_in old (body.Retire retire) = old
-granule_in old body.Squash = old
-granule_in old body.End = old
-
 -- the size of the block that a reservation covers, as the Open says
 abbrev pub granule_of : List Message → ℕ
 granule_of [] = 0
-granule_of (m ∷ before) = granule_in (granule_of before) m.body
+granule_of (m ∷ before) = option_map_or (λ (info : OpenInfo). info.granule) (open_of m.body) (granule_of before)
 
 -- the completed trace of the messages
 abbrev pub trace_of : Loaded → List Message → Trace
