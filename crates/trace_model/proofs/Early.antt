@@ -50,10 +50,10 @@ module _ (rs : List Report) (h t : ℕ) where
   abbrev others : List Report
   others = filter (λ (r : Report). not (is_report h t r)) rs
 
-  other_in : (r : Report) → In r rs → is_report h t r ≡ false → In r others
+  pub other_in : (r : Report) → In r rs → is_report h t r ≡ false → In r others
   other_in r i q = in_filter (λ (r : Report). not (is_report h t r)) rs r i (ap not q)
 
-  others_back : (v : Op) → In v (map early_op others) → In v (map early_op rs)
+  pub others_back : (v : Op) → In v (map early_op others) → In v (map early_op rs)
   others_back v i =
       let y = from_map early_op others v i in
       subst (λ (z : Op). In z (map early_op rs)) (sym y.2) (in_map early_op rs y.0 (from_filter (λ (r : Report). not (is_report h t r)) rs y.0 y.1).0)

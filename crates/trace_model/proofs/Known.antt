@@ -20,7 +20,8 @@ use Rattle.trace_model.specs.Entries.{Stores, Entry}
 use Rattle.trace_model.specs.Traces.{entry_in, with_entry, entries}
 use Rattle.trace_model.proofs.Lists.{In}
 use Rattle.trace_model.proofs.Suits.{IsKnown, SuitsInsert, SuitsPlain, SuitsBody, Suited}
-use Rattle.trace_model.proofs.Past.{Timed, with_more}
+use Rattle.trace_model.proofs.Past.{Timed}
+use Rattle.trace_model.proofs.Keys.{with_more}
 use Rattle.trace_model.proofs.Waits.{held_now}
 use Rattle.trace_model.proofs.Writes.{IsStored}
 

@@ -28,8 +28,10 @@ use Rattle.trace_model.specs.Traces.{stored_at}
 use Rattle.trace_model.specs.Extents.{extent_of}
 use Rattle.trace_model.specs.Entries.{MemoryUse, Fixed, Entry}
 use Rattle.trace_model.specs.Retirements.{load_access, read_places, load_ops, atomic_ops, amo_ops, sc_ops, entry_of}
-use Rattle.trace_model.specs.Traces.{entry_in, with_entry, entries, places, early_op, trace_of}
+use Rattle.trace_model.specs.Traces.{entry_in, entries, places, early_op, trace_of}
 use Rattle.trace_model.proofs.Lists.{In, in_cases, from_map}
+use Rattle.trace_model.proofs.Keys.{with_cases, new_key}
+use Rattle.std.proofs.lemmas.Bool.{and_parts, eqb-true}
 use Rattle.trace_model.proofs.Groups.{part_from}
 use Rattle.trace_model.proofs.Entries.{Comes, is_fixed, is_stored, comes}
 use Rattle.trace_model.proofs.Performed.{IsBelow}
@@ -72,25 +74,29 @@ early_past = early_all (λ before r. WasPast before (place_of_report r)) (record
 
 -- ---- operations that stay as they are
 
--- what P says of the places of live Reads and early Bypasses it says of the operations made of them
-module _ (P : Place → Type 0) (rs bs : List Report) (live_p : (r : Report) → In r rs → P (place_of_report r)) (early_p : (r : Report) → In r bs → P (place_of_report r)) where
-  abbrev IsFixedAt : MemoryUse → Type 0
-  IsFixedAt m = (ops : List Op) (v : Op) (q : Place) → m ≡ Fixed ops → In v ops → v.place ≡ Some q → P q
+-- P holds of their places
+abbrev pub IsFixedAt : (Place → Type 0) → MemoryUse → Type 0
+IsFixedAt P m = (ops : List Op) (v : Op) (q : Place) → m ≡ Fixed ops → In v ops → v.place ≡ Some q → P q
 
-  counted_at : (t x : ℕ) (q : Place) → place_counted (counting rs t x) ≡ Some q → P q
-  counted_at t x q e = at (counting rs t x) refl e
+-- what P says of the places of the instruction's live Reads and of early Bypasses it says of the operations made of them
+module _ (P : Place → Type 0) (head : Head) (rs bs : List Report) (live_p : (r : Report) → In r rs → r.tag ≡ head.tag → P (place_of_report r))
+    (early_p : (r : Report) → In r bs → P (place_of_report r)) where
+  counted_at : (x : ℕ) (q : Place) → place_counted (counting rs head.tag x) ≡ Some q → P q
+  counted_at x q e = at (counting rs head.tag x) refl e
     where
-      at : (o : Option Report) → counting rs t x ≡ o → place_counted o ≡ Some q → P q
+      at : (o : Option Report) → counting rs head.tag x ≡ o → place_counted o ≡ Some q → P q
       at None f e = absurd (cc)
-      at (Some r) f e = subst P (let s : place_of_report r ≡ q = cc in s) (live_p r (latest_in (is_for t x) rs r f).0)
+      at (Some r) f e =
+          let y = latest_in (is_for head.tag x) rs r f in
+          subst P (let s : place_of_report r ≡ q = cc in s) (live_p r y.0 (eqb-true _ _ (and_parts (eqb r.tag head.tag) (has r.piece x) y.1).0))
 
-  loads_at : (head : Head) (insn : Insn) (extent : Extent) → IsFixedAt (Fixed (load_ops rs head insn extent))
-  loads_at head insn extent ops v q d i f =
+  loads_at : (insn : Insn) (extent : Extent) → IsFixedAt P (Fixed (load_ops rs head insn extent))
+  loads_at insn extent ops v q d i f =
       let l : ops ≡ load_ops rs head insn extent = cc in
       let y = part_from (load_access rs head insn extent) (read_places rs head.tag extent) extent.len v (subst (λ (z : List Op). In v z) l i) in
-      counted_at head.tag (extent.addr + y.0) q (sym (ap (λ (z : Op). z.place) y.2) ∙ f)
+      counted_at (extent.addr + y.0) q (sym (ap (λ (z : Op). z.place) y.2) ∙ f)
 
-  atomic_at : (p : Report → Bool) (k : OpKind) (extent : Extent) (got : List ℕ) (aq rl : Ann) → IsFixedAt (Fixed (atomic_ops k extent got aq rl (latest p bs)))
+  atomic_at : (p : Report → Bool) (k : OpKind) (extent : Extent) (got : List ℕ) (aq rl : Ann) → IsFixedAt P (Fixed (atomic_ops k extent got aq rl (latest p bs)))
   atomic_at p k extent got aq rl ops v q d i f =
       let l : ops ≡ atomic_ops k extent got aq rl (latest p bs) = cc in
       at (latest p bs) refl (subst (λ (z : List Op). In v z) l i)
@@ -102,47 +108,49 @@ module _ (P : Place → Type 0) (rs bs : List Report) (live_p : (r : Report) →
           let z : Some (place_of_report r) ≡ Some q = sym (ap (λ (w : Op). w.place) e) ∙ f in
           subst P (let y : place_of_report r ≡ q = cc in y) (early_p r (latest_in p bs r s).0)
 
-  nothing_at : IsFixedAt (Fixed [])
+  nothing_at : IsFixedAt P (Fixed [])
   nothing_at ops v q d i f = absurd (subst (λ (l : List Op). In v l) (let z : ops ≡ [] = cc in z) i)
 
-  pub entry_at : (head : Head) (put : List ℕ) (d : Doing) (e : Entry) → entry_of rs bs head put d ≡ Some e → IsFixedAt e.memory
-  entry_at head put (trap cause value) e s = absurd (cc)
-  entry_at head put (plain insn) e s = let m : Fixed [] ≡ e.memory = cc in subst IsFixedAt m nothing_at
-  entry_at head put (counter insn) e s = let m : Fixed [] ≡ e.memory = cc in subst IsFixedAt m nothing_at
-  entry_at head put (load insn addr len) e s = let m : Fixed (load_ops rs head insn (extent_of addr len)) ≡ e.memory = cc in subst IsFixedAt m (loads_at head insn (extent_of addr len))
-  entry_at head put (store insn addr len) e s = λ ops v q d i f. absurd (cc)
-  entry_at head put (lr insn addr len) e s = let m : Fixed (load_ops rs head insn (extent_of addr len)) ≡ e.memory = cc in subst IsFixedAt m (loads_at head insn (extent_of addr len))
-  entry_at head put (sc insn addr len) e s = let m : Fixed (sc_ops bs head insn (extent_of addr len)) ≡ e.memory = cc in subst IsFixedAt m (atomic_at _ _ _ _ _ _)
-  entry_at head put (amo insn addr len) e s = let m : Fixed (amo_ops rs bs head insn (extent_of addr len)) ≡ e.memory = cc in subst IsFixedAt m (atomic_at _ _ _ _ _ _)
+  pub entry_at : (put : List ℕ) (d : Doing) (e : Entry) → entry_of rs bs head put d ≡ Some e → IsFixedAt P e.memory
+  entry_at put (trap cause value) e s = absurd (cc)
+  entry_at put (plain insn) e s = let m : Fixed [] ≡ e.memory = cc in subst (IsFixedAt P) m nothing_at
+  entry_at put (counter insn) e s = let m : Fixed [] ≡ e.memory = cc in subst (IsFixedAt P) m nothing_at
+  entry_at put (load insn addr len) e s = let m : Fixed (load_ops rs head insn (extent_of addr len)) ≡ e.memory = cc in subst (IsFixedAt P) m (loads_at insn (extent_of addr len))
+  entry_at put (store insn addr len) e s = λ ops v q d i f. absurd (cc)
+  entry_at put (lr insn addr len) e s = let m : Fixed (load_ops rs head insn (extent_of addr len)) ≡ e.memory = cc in subst (IsFixedAt P) m (loads_at insn (extent_of addr len))
+  entry_at put (sc insn addr len) e s = let m : Fixed (sc_ops bs head insn (extent_of addr len)) ≡ e.memory = cc in subst (IsFixedAt P) m (atomic_at _ _ _ _ _ _)
+  entry_at put (amo insn addr len) e s = let m : Fixed (amo_ops rs bs head insn (extent_of addr len)) ≡ e.memory = cc in subst (IsFixedAt P) m (atomic_at _ _ _ _ _ _)
 
-pub with_cases : (o : Option Entry) (es : List Entry) (e : Entry) → In e (with_entry o es) → In e es ⊎ (o ≡ Some e)
-with_cases None es e i = inl i
-with_cases (Some f) es e (inl s) = inr (ap Some (sym s))
-with_cases (Some f) es e (inr i) = inl i
+-- what holds of live Reads for their instruction, and of early Bypasses, and goes on, holds of these operations
+pub record OnEntry (Q : List Message → ℕ → ℕ → Place → Type 0) : Type 0 where
+  pub on : (before : List Message) (m : Message) (h t : ℕ) (q : Place) → Q before h t q → Q (m ∷ before) h t q
+  pub read : (before : List Message) (h : ℕ) (r : Report) → In r (live before h) → Q before h r.tag (place_of_report r)
+  pub bypass : (before : List Message) (h t : ℕ) (r : Report) → In r (early before) → Q before h t (place_of_report r)
 
-pub with_more : (o : Option Entry) (es : List Entry) (e : Entry) → In e es → In e (with_entry o es)
-with_more None es e i = i
-with_more (Some f) es e i = inr i
+module _ (Q : List Message → ℕ → ℕ → Place → Type 0) (c : OnEntry Q) where
+  pub entries_all : (image : Loaded) (before : List Message) (e : Entry) → In e (entries image before) → IsFixedAt (Q before e.insn.hart e.insn.tag) e.memory
+  entries_all image [] e i ops v q d j f = absurd i
+  entries_all image (m ∷ before) e i ops v q d j f = elim (with_cases (entry_in image before m.head m.body) (entries image before) e i) [
+    | inl k ↦ c.on before m e.insn.hart e.insn.tag q (entries_all image before e k ops v q d j f)
+    | inr s ↦ c.on before m e.insn.hart e.insn.tag q (at m.body s)
+  ]
+    where
+      at : (b : Body) → entry_in image before m.head b ≡ Some e → Q before e.insn.hart e.insn.tag q
+      at (body.Retire retire) s =
+          let k = new_key image before m.head (body.Retire retire) e s in
+          subst (λ (h : ℕ). Q before h e.insn.tag q) (sym k.0) (subst (λ (t : ℕ). Q before m.head.hart t q) (sym k.1)
+          (entry_at (Q before m.head.hart m.head.tag) m.head (live before m.head.hart) (early before)
+          (λ r i s. subst (λ (t : ℕ). Q before m.head.hart t (place_of_report r)) s (c.read before m.head.hart r i)) (c.bypass before m.head.hart m.head.tag)
+          (stored_at image before m.head retire) (doing_at image before m.head.hart) e s ops v q d j f))
+      at _ s = absurd (cc)
 
--- operations that stay as they are have places of the past
-abbrev IsFixedPast : List Message → Entry → Type 0
-IsFixedPast before e = IsFixedAt (IsPast before) [] [] (λ r i. absurd i) (λ r i. absurd i) e.memory
-
-pub entries_past : (image : Loaded) (before : List Message) → Timed before → (e : Entry) → In e (entries image before) → IsFixedPast before e
-entries_past image [] c e i ops v q d j f = absurd i
-entries_past image (m ∷ before) c e i ops v q d j f = elim (with_cases (entry_in image before m.head m.body) (entries image before) e i) [
-  | inl k ↦ on (entries_past image before c.0 e k ops v q d j f)
-  | inr s ↦ at m.body s
-]
-  where
-    on : IsPast before q → IsPast (m ∷ before) q
-    on r = (omega (arith, r.0, c.1), omega (arith, r.1))
-
-    at : (b : Body) → entry_in image before m.head b ≡ Some e → IsPast (m ∷ before) q
-    at (body.Retire retire) s =
-        on (entry_at (IsPast before) (live before m.head.hart) (early before) (λ r i. (live_past before m.head.hart r i).0 c.0) (λ r i. early_past before r i c.0)
-        m.head (stored_at image before m.head retire) (doing_at image before m.head.hart) e s ops v q d j f)
-    at _ s = absurd (cc)
+-- their places are of the past
+pub entries_past : (image : Loaded) (before : List Message) (e : Entry) → In e (entries image before) → IsFixedAt (WasPast before) e.memory
+entries_past = entries_all (λ before h t q. WasPast before q) (record {
+  on = λ before m h t q. past_on before m q;
+  read = λ before h r i. (live_past before h r i).0;
+  bypass = λ before h t r i. early_past before r i;
+})
 
 pub done_of : (x : Fate) (q : Place) → place_of x ≡ Some q → x ≡ Done q
 done_of Nothing q e = absurd (cc)
@@ -157,7 +165,7 @@ all_past image before c v q i f = elim (in_cases (trace_of image before).ops (ma
 ]
   where
     of_entry : Comes (places before) (entries image before) v → IsPast before q
-    of_entry (is_fixed e ops i d h) = entries_past image before c e i ops v q d h f
+    of_entry (is_fixed e ops i d h) = entries_past image before e i ops v q d h f c
     of_entry (is_stored e a k i d l s) = fate_past before a.hart a.tag (a.extent.addr + k) q (done_of (fate before a.hart a.tag (a.extent.addr + k)) q (sym (ap (λ (z : Op). z.place) s) ∙ f)) c
 
 -- so all of them come before a place of the next message

@@ -7,16 +7,15 @@ use Rattle.msg_frames.specs.declared.message.Body.{Body}
 use Rattle.msg_frames.specs.declared.message.Body.TheVariants as body
 use Rattle.msg_frames.specs.declared.message.Message.{Message}
 use Rattle.elf_image.specs.Images.{Loaded}
-use Rattle.rv_decode.specs.declared.instruction.Insn.{Insn}
 use Rattle.rv_step.specs.Steps.{Doing, trap, plain, counter, load, store, lr, sc, amo}
-use Rattle.rv_step.specs.Promises.{is_load, is_store, is_lr, is_sc, is_amo}
-use Rattle.growth_laws.specs.Kinds.{kind_of_insn}
+use Rattle.rv_step.specs.Promises.{is_plain, reads_counter, is_load, is_store, is_lr, is_sc, is_amo}
+use Rattle.matching.specs.declared.run.Pair.{Pair}
 use Rattle.matching.specs.declared.reports.Report.{Report}
 use Rattle.matching.specs.Settings.{last_time}
 use Rattle.matching.specs.Pieces.{has}
 use Rattle.matching.specs.Tags.{is_early, is_younger, last_tag}
 use Rattle.matching.specs.Reports.{is_report, live, early, counting}
-use Rattle.matching.specs.Runs.{doing_at}
+use Rattle.matching.specs.Runs.{run_of, doing_at}
 use Rattle.trace_model.specs.Traces.{stored_at}
 use Rattle.trace_model.proofs.Fresh.{IsFresh, IsInLine}
 use Rattle.trace_model.specs.Extents.{is_extent}
@@ -73,12 +72,12 @@ IsOneRead live t addr len = (k : ℕ) → k < len → counting live t (addr + k)
 abbrev pub IsOver : ℕ → ℕ → Report → Type 0
 IsOver addr len r = (r.piece.addr ≡ addr) × (length r.piece.bytes ≡ len)
 
-pub record SuitsLoad (live early : List Report) (head : Head) (insn : Insn) (addr len : ℕ) : Type 0 where
+pub record SuitsLoad (live early : List Report) (head : Head) (addr len : ℕ) : Type 0 where
   pub sized : is_extent addr len ≡ true
   pub none : HasNone early head
   pub counted : IsCounted live head.tag addr len
 
-pub record SuitsLr (live early : List Report) (head : Head) (insn : Insn) (addr len : ℕ) : Type 0 where
+pub record SuitsLr (live early : List Report) (head : Head) (addr len : ℕ) : Type 0 where
   pub sized : is_extent addr len ≡ true
   pub none : HasNone early head
   pub counted : IsCounted live head.tag addr len
@@ -86,7 +85,7 @@ pub record SuitsLr (live early : List Report) (head : Head) (insn : Insn) (addr 
   pub aligned : addr % len ≡ 0
   pub width : (len ≡ 4) ⊎ (len ≡ 8)
 
-pub record SuitsStore (early : List Report) (head : Head) (put : List ℕ) (insn : Insn) (addr len : ℕ) : Type 0 where
+pub record SuitsStore (early : List Report) (head : Head) (put : List ℕ) (addr len : ℕ) : Type 0 where
   pub sized : is_extent addr len ≡ true
   pub none : HasNone early head
   pub stored : length put ≡ len
@@ -97,24 +96,36 @@ pub record HasOver (early : List Report) (head : Head) (addr len : ℕ) : Type 0
   pub is : early_of early head.hart head.tag ≡ Some report
   pub over : IsOver addr len report
 
+-- the bytes of the pair have all of these
+pub record IsInPair (pair : Option Pair) (addr len : ℕ) : Type 0 where
+  pub lr : Pair
+  pub is : pair ≡ Some lr
+  pub first : lr.addr ≤ addr
+  pub last : addr + len ≤ lr.addr + lr.len
+
+-- an SC that succeeds has its Bypass and its pair
+pub record SuitsSc (early : List Report) (pair : Option Pair) (head : Head) (addr len : ℕ) : Type 0 where
+  pub bypass : HasOver early head addr len
+  pub paired : IsInPair pair addr len
+
 -- what an instruction is to do suits what was reported
-abbrev pub SuitsDoing : List Report → List Report → Head → List ℕ → Doing → Type 0
-SuitsDoing live early head put (trap cause value) = HasNone early head
-SuitsDoing live early head put (plain insn) = HasNone early head × (kind_of_insn insn false ≡ None)
-SuitsDoing live early head put (counter insn) = HasNone early head × (kind_of_insn insn false ≡ None)
-SuitsDoing live early head put (load insn addr len) = SuitsLoad live early head insn addr len × (is_load insn ≡ true)
-SuitsDoing live early head put (store insn addr len) = SuitsStore early head put insn addr len × (is_store insn ≡ true)
-SuitsDoing live early head put (lr insn addr len) = SuitsLr live early head insn addr len × (is_lr insn ≡ true)
-SuitsDoing live early head put (sc insn addr len) =
-    ((early_of early head.hart head.tag ≡ None) ⊎ HasOver early head addr len) × (is_sc insn ≡ true) × (is_extent addr len ≡ true)
-SuitsDoing live early head put (amo insn addr len) =
+abbrev pub SuitsDoing : List Report → List Report → Option Pair → Head → List ℕ → Doing → Type 0
+SuitsDoing live early pair head put (trap cause value) = HasNone early head
+SuitsDoing live early pair head put (plain insn) = HasNone early head × (is_plain insn ≡ true)
+SuitsDoing live early pair head put (counter insn) = HasNone early head × (reads_counter insn ≡ true)
+SuitsDoing live early pair head put (load insn addr len) = SuitsLoad live early head addr len × (is_load insn ≡ true)
+SuitsDoing live early pair head put (store insn addr len) = SuitsStore early head put addr len × (is_store insn ≡ true)
+SuitsDoing live early pair head put (lr insn addr len) = SuitsLr live early head addr len × (is_lr insn ≡ true)
+SuitsDoing live early pair head put (sc insn addr len) =
+    ((early_of early head.hart head.tag ≡ None) ⊎ SuitsSc early pair head addr len) × (is_sc insn ≡ true) × (is_extent addr len ≡ true)
+SuitsDoing live early pair head put (amo insn addr len) =
     HasOver early head addr len × (is_amo insn ≡ true) × (is_extent addr len ≡ true)
 
 -- a Retire: its tag is above the last one of its hart, and not above those of its early Bypasses
 pub record SuitsRetire (image : Loaded) (before : List Message) (head : Head) (retire : Retire) : Type 0 where
   pub younger : is_younger (last_tag before head.hart) head.tag ≡ true
   pub older : (r : Report) → In r (early before) → r.hart ≡ head.hart → head.tag ≤ r.tag
-  pub doing : SuitsDoing (live before head.hart) (early before) head (stored_at image before head retire) (doing_at image before head.hart)
+  pub doing : SuitsDoing (live before head.hart) (early before) (run_of image before head.hart).pair head (stored_at image before head retire) (doing_at image before head.hart)
 
 -- ---- lists
 

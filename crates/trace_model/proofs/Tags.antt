@@ -22,25 +22,8 @@ use Rattle.trace_model.specs.Entries.{Entry, insns_of}
 use Rattle.trace_model.specs.Retirements.{entry_of}
 use Rattle.trace_model.specs.Traces.{entry_in, with_entry, entries}
 use Rattle.trace_model.proofs.Lists.{In, in_cases, from_filter}
-use Rattle.trace_model.proofs.Past.{with_cases}
+use Rattle.trace_model.proofs.Keys.{with_cases, new_key}
 use Rattle.trace_model.proofs.Suits.{SuitsBody, SuitsRetire, Suited}
-
--- the entry of a Retire is of its hart and tag
-abbrev pub IsAt : Head → Entry → Type 0
-IsAt head e = (e.insn.hart ≡ head.hart) × (e.insn.tag ≡ head.tag)
-
-is_at : (head : Head) (f e : Entry) → Some f ≡ Some e → IsAt head f → IsAt head e
-is_at head f e q k = subst (IsAt head) (let c : f ≡ e = cc in c) k
-
-pub entry_key : (rs bs : List Report) (head : Head) (put : List ℕ) (d : Doing) (e : Entry) → entry_of rs bs head put d ≡ Some e → IsAt head e
-entry_key rs bs head put (trap cause value) e q = absurd (cc)
-entry_key rs bs head put (plain insn) e q = is_at head _ e q (refl, refl)
-entry_key rs bs head put (counter insn) e q = is_at head _ e q (refl, refl)
-entry_key rs bs head put (load insn addr len) e q = is_at head _ e q (refl, refl)
-entry_key rs bs head put (store insn addr len) e q = is_at head _ e q (refl, refl)
-entry_key rs bs head put (lr insn addr len) e q = is_at head _ e q (refl, refl)
-entry_key rs bs head put (sc insn addr len) e q = is_at head _ e q (refl, refl)
-entry_key rs bs head put (amo insn addr len) e q = is_at head _ e q (refl, refl)
 
 -- a tag is at most the last one
 abbrev pub IsUpTo : Option ℕ → ℕ → Type 0
@@ -75,7 +58,7 @@ module _ (image : Loaded) (before : List Message) (m : Message) (suits : SuitsBo
     where
       at : (b : Body) → entry_in image before m.head b ≡ Some e → IsUpTo (last_in (last_tag before e.insn.hart) m.head b e.insn.hart) e.insn.tag
       at (body.Retire retire) q =
-          let k = entry_key (live before m.head.hart) (early before) m.head (stored_at image before m.head retire) (doing_at image before m.head.hart) e q in
+          let k = new_key image before m.head (body.Retire retire) e q in
           rw (k.0, k.1, eq-eqb m.head.hart m.head.hart refl) (omega arith)
       at _ q = absurd (cc)
 
@@ -86,12 +69,15 @@ up_to_last image (m ∷ before) s e i = elim (with_cases (entry_in image before 
   | inr q ↦ up_new image before m s.2 e q
 ]
 
-from_insn : (es : List Entry) (w : Retired) → In w (insns_of es) → (e : Entry) × In e es × (w ≡ e.insn)
+pub from_insn : (es : List Entry) (w : Retired) → In w (insns_of es) → (e : Entry) × In e es × (w ≡ e.insn)
 from_insn [] w i = absurd i
 from_insn (f ∷ es) w i = elim (in_cases (insns_of es) (f.insn ∷ []) w i) [
   | inl j ↦ let r = from_insn es w j in (r.0, inr r.1, r.2)
   | inr j ↦ elim j [ inl s ↦ (f, inl refl, s) | inr k ↦ absurd k ]
 ]
+
+pub all_below_entry : (image : Loaded) (before : List Message) → Suited image before → (h t : ℕ) → is_younger (last_tag before h) t ≡ true → (e : Entry) → In e (entries image before) → e.insn.hart ≡ h → e.insn.tag < t
+all_below_entry image before s h t y e i f = below_younger (last_tag before h) e.insn.tag t (subst (λ (z : ℕ). IsUpTo (last_tag before z) e.insn.tag) f (up_to_last image before s e i)) y
 
 -- so a tag above the last one is above those of all instructions of that hart
 pub all_below_tag : (image : Loaded) (before : List Message) → Suited image before → (h t : ℕ) → is_younger (last_tag before h) t ≡ true → (w : Retired) → In w (insns_of (entries image before)) → w.hart ≡ h → w.tag < t
@@ -109,7 +95,7 @@ all_below_tag image before s h t y w i e =
 abbrev pub IsAhead : List Message → Report → Type 0
 IsAhead before r = is_younger (last_tag before r.hart) r.tag ≡ true
 
-other_tag : (head : Head) (r : Report) → head.tag ≤ r.tag → eqb head.hart r.hart ≡ true → not (is_report head.hart head.tag r) ≡ true → head.tag < r.tag
+pub other_tag : (head : Head) (r : Report) → head.tag ≤ r.tag → eqb head.hart r.hart ≡ true → not (is_report head.hart head.tag r) ≡ true → head.tag < r.tag
 other_tag head r l e n = at (eqb r.tag head.tag) refl
   where
     at : (c : Bool) → eqb r.tag head.tag ≡ c → head.tag < r.tag
