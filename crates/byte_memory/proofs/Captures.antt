@@ -8,7 +8,7 @@ use Rattle.byte_memory.specs.declared.capture.Foreign.{Foreign}
 use Rattle.byte_memory.specs.declared.memory.Memory.{Memory}
 use Rattle.tandem_base.specs.declared.names.Position.{Position}
 use Rattle.byte_memory.specs.declared.writer.Writer.{Writer}
-use Rattle.byte_memory.specs.Captures.{IsForeign, IsLatestForeign, later_of, other_from}
+use Rattle.byte_memory.specs.Captures.{FindsForeign, IsLatestForeign, later_of, other_from}
 use Rattle.tandem_base.specs.Extents.{is_among}
 use Rattle.byte_memory.specs.Memory.{written_at, foreign_writer, other_writer}
 use Rattle.tandem_base.specs.Places.{comes_before}
@@ -50,12 +50,12 @@ module _ (m : Memory) (h base k : ℕ) where
   wrote_at : ℕ → Option Writer
   wrote_at x = foreign_writer h (written_at m x)
 
-  pub foreign_more : (found : Option Foreign) → IsForeign m h base k found
-      → IsForeign m h base (k + 1) (later_of found (base + k) (foreign_writer h (written_at m (base + k))))
+  pub foreign_more : (found : Option Foreign) → FindsForeign m h base k found
+      → FindsForeign m h base (k + 1) (later_of found (base + k) (foreign_writer h (written_at m (base + k))))
   foreign_more found so_far = by (foreign_writer h (written_at m (base + k))) refl found so_far
     where
       by : (w : Option Writer) → foreign_writer h (written_at m (base + k)) ≡ w → (found : Option Foreign)
-          → IsForeign m h base k found → IsForeign m h base (k + 1) (later_of found (base + k) w)
+          → FindsForeign m h base k found → FindsForeign m h base (k + 1) (later_of found (base + k) w)
       by None e None s = λ x i. elim (cases_eq x (base + k)) [
         | inl q ↦ subst (λ (y : ℕ). foreign_writer h
             (written_at m y) ≡ None) (sym q) e
@@ -86,7 +86,7 @@ module _ (m : Memory) (h base k : ℕ) where
       by (Some w) e (Some f) s = at (comes_before f.writer.place w.place) refl
         where
           at : (b : Bool) → comes_before f.writer.place w.place ≡ b
-              → IsForeign m h base (k + 1) (later_of (Some f) (base + k) (Some w))
+              → FindsForeign m h base (k + 1) (later_of (Some f) (base + k) (Some w))
           at true b = rw b (record {
             inside = itself;
             wrote = e;

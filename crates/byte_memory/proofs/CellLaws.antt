@@ -7,7 +7,7 @@ use Rattle.std.proofs.lemmas.Bool.{both_ways}
 use Rattle.std.proofs.lemmas.Bool.Decides.{nat_tests}
 use Rattle.tandem_base.specs.declared.names.Position.{Position}
 use Rattle.byte_memory.specs.declared.writer.Writer.{Writer}
-use Rattle.byte_memory.specs.Cells.{ByteStore, IsLatest, IsLatestWriter, IsLeft, Gains, is_before, is_foreign}
+use Rattle.byte_memory.specs.Cells.{ByteStore, IsLatestStore, IsLatestWriter, IsLeft, Gains, is_before, is_foreign_before}
 use Rattle.byte_memory.specs.Memory.{Written, overwritten, other_than, foreign_writer}
 use Rattle.tandem_base.specs.Places.{comes_before}
 use Rattle.byte_memory.proofs.Positions.{never_itself, not_before, before_past}
@@ -23,7 +23,7 @@ both a b e f = rw (e, f) refl
 module _ (passes : Writer → Bool) (stores grown : List ByteStore)
     (there : (s : ByteStore) → passes s.writer ≡ true → Contains stores s → Contains grown s)
     (back : (s : ByteStore) → passes s.writer ≡ true → Contains grown s → Contains stores s) where
-  pub latest_same : (latest : Option ByteStore) → IsLatest passes stores latest → IsLatest passes grown latest
+  pub latest_same : (latest : Option ByteStore) → IsLatestStore passes stores latest → IsLatestStore passes grown latest
   latest_same None l = λ s i. by s i (passes s.writer) refl
     where
       by : (s : ByteStore) → Contains grown s → (b : Bool) → passes s.writer ≡ b → passes s.writer ≡ false
@@ -38,28 +38,28 @@ module _ (place : Position) (stores grown : List ByteStore)
   pub left_stays : (was : Option Written) → IsLeft place stores was → IsLeft place grown was
   left_stays None l = latest_same (is_before place) stores grown there back None l
   left_stays (Some w) l =
-      let before : (s : ByteStore) → is_foreign place w.last.hart s.writer ≡ true → is_before place s.writer ≡ true =
+      let before : (s : ByteStore) → is_foreign_before place w.last.hart s.writer ≡ true → is_before place s.writer ≡ true =
       λ s e. (of_both _ _ e).0 in (
         latest_same (is_before place) stores grown there back (Some (record { writer = w.last; value = w.value })) l.0,
         (
           l.1.0,
           l.1.1,
-          latest_same (is_foreign place w.last.hart) stores grown (λ s e. there s (before s e))
+          latest_same (is_foreign_before place w.last.hart) stores grown (λ s e. there s (before s e))
               (λ s e. back s (before s e)) l.1.0 l.1.2,
         ),
       )
 
 -- the last writer of another hart than h is the last one, or else the last of another hart than its
 pub left_foreign : (place : Position) (stores : List ByteStore) (was : Option Written) (h : ℕ) → IsLeft place stores was
-    → IsLatestWriter (is_foreign place h) stores (foreign_writer h was)
+    → IsLatestWriter (is_foreign_before place h) stores (foreign_writer h was)
 left_foreign place stores None h l = (None, refl, λ s i. (let e = l s i in rw e refl))
 left_foreign place stores (Some w) h l = at (w.last.hart == h) refl
   where
     same : (w.last.hart == h) ≡ true → w.last.hart ≡ h
     same e = grind (arith, nat_tests)
 
-    at : (b : Bool) → (w.last.hart == h) ≡ b → IsLatestWriter (is_foreign place h) stores (foreign_writer h (Some w))
-    at true e = rw e (subst (λ (n : ℕ). IsLatestWriter (is_foreign place n) stores w.other) (same e) l.1)
+    at : (b : Bool) → (w.last.hart == h) ≡ b → IsLatestWriter (is_foreign_before place h) stores (foreign_writer h (Some w))
+    at true e = rw e (subst (λ (n : ℕ). IsLatestWriter (is_foreign_before place n) stores w.other) (same e) l.1)
     at false e = rw e (
       Some (record { writer = w.last; value = w.value }),
       refl,
@@ -73,7 +73,7 @@ module _ (place later : Position) (stores grown : List ByteStore) (new : ByteSto
   still : (s : ByteStore) → Contains stores s → is_before later s.writer ≡ true
   still s i = before_past s.writer.place place new.writer.place later (all s i) after before
 
-  newest : IsLatest (is_before later) grown (Some new)
+  newest : IsLatestStore (is_before later) grown (Some new)
   newest = (
     gains.there,
     before,
@@ -84,19 +84,19 @@ module _ (place later : Position) (stores grown : List ByteStore) (new : ByteSto
     ],
   )
 
-  own : (s : ByteStore) → s ≡ new → is_foreign later new.writer.hart s.writer ≡ true → ⊥
+  own : (s : ByteStore) → s ≡ new → is_foreign_before later new.writer.hart s.writer ≡ true → ⊥
   own s e p = none (subst (λ (z : ByteStore). not (z.writer.hart == new.writer.hart) ≡ true) e (of_both _ _ p).1)
     where
       none : not (new.writer.hart == new.writer.hart) ≡ true → ⊥
       none n = grind (arith, nat_tests)
 
   -- the latest of another hart, among the older ones
-  others : (o : Option ByteStore) → IsLatest (is_foreign place new.writer.hart) stores o
-      → IsLatest (is_foreign later new.writer.hart) grown o
-  others None l = λ s i. by s i (is_foreign later new.writer.hart s.writer) refl
+  others : (o : Option ByteStore) → IsLatestStore (is_foreign_before place new.writer.hart) stores o
+      → IsLatestStore (is_foreign_before later new.writer.hart) grown o
+  others None l = λ s i. by s i (is_foreign_before later new.writer.hart s.writer) refl
     where
-      by : (s : ByteStore) → Contains grown s → (b : Bool) → is_foreign later new.writer.hart s.writer ≡ b
-          → is_foreign later new.writer.hart s.writer ≡ false
+      by : (s : ByteStore) → Contains grown s → (b : Bool) → is_foreign_before later new.writer.hart s.writer ≡ b
+          → is_foreign_before later new.writer.hart s.writer ≡ false
       by s i false e = e
       by s i true e = absurd (elim (gains.only s i) [
         | inl q ↦ own s q e
@@ -116,6 +116,6 @@ module _ (place later : Position) (stores grown : List ByteStore) (new : ByteSto
   left_grows was l = (newest, at was l)
     where
       at : (was : Option Written) → IsLeft place stores was
-          → IsLatestWriter (is_foreign later new.writer.hart) grown (other_than new.writer was)
+          → IsLatestWriter (is_foreign_before later new.writer.hart) grown (other_than new.writer was)
       at None l = (None, refl, others None (λ s i. absurd (both_ways _ (l s i) (all s i))))
       at (Some w) l = let f = left_foreign place stores (Some w) new.writer.hart l in (f.0, f.1, others f.0 f.2)

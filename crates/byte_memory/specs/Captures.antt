@@ -25,8 +25,8 @@ abbrev pub capture_size : Extent → ℕ
 capture_size extent = if crosses extent then extent.len else 8
 
 -- byte k of the `size` bytes from `base` up: past them there is 0, with no writer
-abbrev pub byte_from : Memory → Loaded → ℕ → ℕ → ℕ → Cell
-byte_from memory image base size k =
+abbrev pub cell_from : Memory → Loaded → ℕ → ℕ → ℕ → Cell
+cell_from memory image base size k =
     if nat_lt k size then cell_at memory image (base + k) else record { value = 0; last = None; other = None }
 
 -- for byte k of the `size` bytes from `base` up, the last writer of another hart than its last one's
@@ -35,7 +35,7 @@ other_from memory base size k = if nat_lt k size then other_writer (written_at m
 
 -- byte k of a capture of the extent
 abbrev pub captured : Memory → Loaded → Extent → ℕ → Cell
-captured memory image extent k = byte_from memory image (capture_base extent) (capture_size extent) k
+captured memory image extent k = cell_from memory image (capture_base extent) (capture_size extent) k
 
 -- the capture has what memory, over the image, holds of the extent
 pub record Sees (memory : Memory) (image : Loaded) (extent : Extent) (capture : Capture) : Type 0 where
@@ -62,10 +62,10 @@ pub record IsLatestForeign (memory : Memory) (hart base size : ℕ) (found : For
       → comes_before w.place found.writer.place ≡ true
 
 -- it is that store, or there is none
-abbrev pub IsForeign : Memory → ℕ → ℕ → ℕ → Option Foreign → Type 0
-IsForeign memory hart base size None = (x : ℕ) → is_among base size x ≡ true →
+abbrev pub FindsForeign : Memory → ℕ → ℕ → ℕ → Option Foreign → Type 0
+FindsForeign memory hart base size None = (x : ℕ) → is_among base size x ≡ true →
     foreign_writer hart (written_at memory x) ≡ None
-IsForeign memory hart base size (Some found) = IsLatestForeign memory hart base size found
+FindsForeign memory hart base size (Some found) = IsLatestForeign memory hart base size found
 
 -- the later of what was found and one more writer, of the byte at x
 abbrev pub later_of : Option Foreign → ℕ → Option Writer → Option Foreign

@@ -13,9 +13,9 @@ pub record ByteStore : Type 0 where
   pub value : ℕ
 
 -- it is the latest of the stores that pass a test, None where none passes
-abbrev pub IsLatest : (Writer → Bool) → List ByteStore → Option ByteStore → Type 0
-IsLatest passes stores None = (s : ByteStore) → Contains stores s → passes s.writer ≡ false
-IsLatest passes stores (Some latest) =
+abbrev pub IsLatestStore : (Writer → Bool) → List ByteStore → Option ByteStore → Type 0
+IsLatestStore passes stores None = (s : ByteStore) → Contains stores s → passes s.writer ≡ false
+IsLatestStore passes stores (Some latest) =
     Contains stores latest × (passes latest.writer ≡ true)
     × ((s : ByteStore) → Contains stores s → passes s.writer ≡ true → comes_before latest.writer.place s.writer.place
     ≡ false)
@@ -25,21 +25,21 @@ abbrev pub is_before : Position → Writer → Bool
 is_before place w = comes_before w.place place
 
 -- it was, and by another hart than this one
-abbrev pub is_foreign : Position → ℕ → Writer → Bool
-is_foreign place hart w = comes_before w.place place && not (w.hart == hart)
+abbrev pub is_foreign_before : Position → ℕ → Writer → Bool
+is_foreign_before place hart w = comes_before w.place place && not (w.hart == hart)
 
 -- it is the writer of the latest of the stores that pass a test, None where none passes
 abbrev pub IsLatestWriter : (Writer → Bool) → List ByteStore → Option Writer → Type 0
 IsLatestWriter passes stores writer = (latest : Option ByteStore) × (option_map (λ s. s.writer) latest ≡ writer)
-    × IsLatest passes stores latest
+    × IsLatestStore passes stores latest
 
 -- what is kept of a byte is what the stores before a place left: the latest of them, and the latest of another hart
 -- than its
 abbrev pub IsLeft : Position → List ByteStore → Option Written → Type 0
-IsLeft place stores None = IsLatest (is_before place) stores None
+IsLeft place stores None = IsLatestStore (is_before place) stores None
 IsLeft place stores (Some was) =
-    IsLatest (is_before place) stores (Some (record { writer = was.last; value = was.value }))
-    × IsLatestWriter (is_foreign place was.last.hart) stores was.other
+    IsLatestStore (is_before place) stores (Some (record { writer = was.last; value = was.value }))
+    × IsLatestWriter (is_foreign_before place was.last.hart) stores was.other
 
 -- the stores have grown by one
 pub record Gains (stores : List ByteStore) (new : ByteStore) (grown : List ByteStore) : Type 0 where

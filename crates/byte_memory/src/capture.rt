@@ -1,7 +1,7 @@
 //! What a report saw of memory.
 
 ghost use Rattle.std.specs.Prelude.{◌≡◌, ◌+◌, ◌^◌, ◌<◌, ◌≤◌, ℕ, None, slice_index_or};
-ghost use Rattle.byte_memory.specs.Captures.{IsBlock, IsForeign, block_base, capture_base, capture_size};
+ghost use Rattle.byte_memory.specs.Captures.{IsBlock, FindsForeign, block_base, capture_base, capture_size};
 ghost use Rattle.byte_memory.specs.Captures.{later_of, other_from};
 
 use crate::memory::Memory;
@@ -41,7 +41,7 @@ pub struct StoreCapture {
 impl Capture {
     ghost use Rattle.std.specs.Prelude.{◌≡◌, ◌<◌, ℕ, None, slice_index, slice_index_or};
     ghost use Rattle.elf_image.specs.Images.{loaded_of};
-    ghost use Rattle.byte_memory.specs.Captures.{Sees, byte_from};
+    ghost use Rattle.byte_memory.specs.Captures.{Sees, cell_from};
 
     /// What memory, over the initial bytes of an image, holds of an extent, seen at a place.
     pub fn take(memory: &Memory, image: &Image, extent: &Extent, place: Position) -> Capture
@@ -79,9 +79,9 @@ impl Capture {
         ensures place { self.new.place ≡ self.old.place }
         ensures base { self.new.base ≡ self.old.base }
         ensures value { (k : ℕ) → k < 8 → slice_index self.new.values k
-            ≡ (byte_from memory.now (loaded_of image.now) extent.now.addr extent.now.len k).value }
+            ≡ (cell_from memory.now (loaded_of image.now) extent.now.addr extent.now.len k).value }
         ensures last { (k : ℕ) → k < 8 → slice_index_or self.new.last k None
-            ≡ (byte_from memory.now (loaded_of image.now) extent.now.addr extent.now.len k).last }
+            ≡ (cell_from memory.now (loaded_of image.now) extent.now.addr extent.now.len k).last }
     {
         for k in 0..8u8 {
             let cell = if k < extent.len {
@@ -102,7 +102,7 @@ impl Capture {
 impl StoreCapture {
     ghost use Rattle.std.specs.Prelude.{◌≡◌, ◌<◌, ℕ, None, slice_index_or};
     ghost use Rattle.elf_image.specs.Images.{loaded_of};
-    ghost use Rattle.byte_memory.specs.Captures.{Sees, IsBlock, IsForeign, block_base, captured};
+    ghost use Rattle.byte_memory.specs.Captures.{Sees, IsBlock, FindsForeign, block_base, captured};
 
     /// What memory, over the initial bytes of an image, holds of an extent, seen at a place by a
     /// hart, with the latest store by another hart to the aligned block of this many bytes.
@@ -119,7 +119,7 @@ impl StoreCapture {
         ensures seen { Sees memory.now (loaded_of image.now) extent.now result.seen }
         ensures other { (k : ℕ) → k < 8 → slice_index_or result.other k None
             ≡ (captured memory.now (loaded_of image.now) extent.now k).other }
-        ensures foreign { IsForeign memory.now hart (block_base extent.now.addr block) block result.foreign }
+        ensures foreign { FindsForeign memory.now hart (block_base extent.now.addr block) block result.foreign }
     {
         StoreCapture {
             seen: Capture::take(memory, image, extent, place),
@@ -150,7 +150,7 @@ fn others(memory: &Memory, extent: &Extent) -> [Option<Writer>; 8]
 /// The latest store by another hart to the block of an address, None where the block is empty.
 fn latest_foreign(memory: &Memory, addr: u64, hart: u8, block: u8) -> Option<Foreign>
     requires { IsBlock block }
-    ensures { IsForeign memory.now hart (block_base addr block) block result }
+    ensures { FindsForeign memory.now hart (block_base addr block) block result }
 {
     if block == 0 {
         return None;

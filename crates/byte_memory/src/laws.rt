@@ -3,7 +3,7 @@
 ghost use Rattle.std.specs.Prelude.{◌≡◌, ℕ, List, Option, Some, true, false};
 ghost use Rattle.std.specs.List.{Contains};
 ghost use Rattle.tandem_base.specs.declared.names.Position.{Position};
-ghost use Rattle.byte_memory.specs.Cells.{ByteStore, Gains, IsLatestWriter, IsLeft, is_before, is_foreign};
+ghost use Rattle.byte_memory.specs.Cells.{ByteStore, Gains, IsLatestWriter, IsLeft, is_before, is_foreign_before};
 ghost use Rattle.byte_memory.specs.Memory.{Written, foreign_writer, overwritten};
 ghost use Rattle.tandem_base.specs.Places.{comes_before};
 
@@ -33,5 +33,5 @@ pub fn captures_stay()
 pub fn two_writers_tell_each_last_foreign_one()
     ensures { (place : Position) → (stores : List ByteStore) → (was : Option Written) → (hart : ℕ) →
         IsLeft place stores was
-        → IsLatestWriter (is_foreign place hart) stores (foreign_writer hart was) }
+        → IsLatestWriter (is_foreign_before place hart) stores (foreign_writer hart was) }
 {}

@@ -20,9 +20,9 @@ pub record CsrValues : Type 0 where
   pub mtval : ℕ
   pub mhartid : ℕ
 
--- there is a register of this number
-abbrev pub is_csr : ℕ → Bool
-is_csr number = list_any (nat_eq number) csr.numbers
+-- there is a register of this number: it is one of the twelve
+abbrev pub is_implemented : ℕ → Bool
+is_implemented number = list_any (nat_eq number) csr.numbers
 
 -- bits 11:10 are 11
 abbrev pub is_read_only : ℕ → Bool
@@ -79,7 +79,7 @@ read_of csrs number =
 -- what a write answers
 abbrev pub write_of : ℕ → ℕ → CsrWrite
 write_of number value =
-    if not (is_csr number) then write.Absent
+    if not (is_implemented number) then write.Absent
     else if is_read_only number then write.ReadOnly
     else write.Done (kept number value)
 

@@ -1,8 +1,8 @@
 //! The registers of one hart, and what reads, writes, traps and MRET do to them.
 
 ghost use Rattle.std.specs.Prelude.{◌≡◌, ◌%◌, ◌↔◌, Bool, false};
-ghost use Rattle.csr_file.specs.CsrFile.{is_csr, is_read_only, read_of, write_of, written, csrs_at_start, trapped};
-ghost use Rattle.csr_file.specs.CsrFile.{returned, mstatus_kept, mie_kept, multiple_of_4};
+ghost use Rattle.csr_file.specs.CsrFile.{is_implemented, is_read_only, read_of, write_of, written};
+ghost use Rattle.csr_file.specs.CsrFile.{csrs_at_start, trapped, returned, mstatus_kept, mie_kept, multiple_of_4};
 
 use crate::answers::{CsrRead, CsrWrite};
 use std::marker::Model;
@@ -97,7 +97,7 @@ impl Csrs {
     /// The register of this number. Absent exactly for a number outside the twelve.
     pub fn read(&self, number: u16) -> CsrRead
         ensures value { result ≡ read_of self.now number }
-        ensures absent { (result ≡ CsrRead.Absent) ↔ (is_csr number ≡ false) }
+        ensures absent { (result ≡ CsrRead.Absent) ↔ (is_implemented number ≡ false) }
     {
         match number {
             MSTATUS => CsrRead::Value(self.mstatus),

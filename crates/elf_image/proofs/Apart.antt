@@ -11,7 +11,7 @@ use Rattle.std.proofs.lemmas.List.Sums.{get_or-le-sum_by, sum_by-cons}
 use Rattle.std.proofs.lemmas.List.Sorted.{All-permutation, Contains-permutation, sum_by-IsPermutation}
 use Rattle.elf_image.specs.declared.program.ProgramHeader.{ProgramHeader}
 use Rattle.elf_image.specs.declared.range.Range.{Range}
-use Rattle.elf_image.specs.Elf.{is_misplaced, loaded, meets, overlap_fault}
+use Rattle.elf_image.specs.Elf.{is_misplaced, segment_of, shares_address, overlap_fault}
 use Rattle.elf_image.specs.Images.{Segment, segment_byte}
 use Rattle.tandem_base.specs.Extents.{is_among}
 use Rattle.elf_image.specs.Tables.{EndsBefore, IsInFile, load_range, range_holds, segment_in}
@@ -40,20 +40,21 @@ map_none f None e = refl
 abbrev worth : ℕ → Range → ℕ
 worth x r = cond (range_holds x r) 1 0
 
-meets_not : (a b : ProgramHeader) (x : ℕ) → meets a b ≡ false → range_holds x (load_range a) ≡ true
+apart_not : (a b : ProgramHeader) (x : ℕ) → shares_address a b ≡ false → range_holds x (load_range a) ≡ true
     → range_holds x (load_range b) ≡ false
-meets_not a b x apart held = grind (arith, nat_tests)
+apart_not a b x apart held = grind (arith, nat_tests)
 
-none_hold : (a : ProgramHeader) (rest : List ProgramHeader) (x : ℕ) → find (meets a) rest ≡ None
+none_hold : (a : ProgramHeader) (rest : List ProgramHeader) (x : ℕ) → find (shares_address a) rest ≡ None
     → range_holds x (load_range a) ≡ true → sum_by (worth x) (map load_range rest) ≡ 0
 none_hold a [] x e held = refl
 none_hold a (b ∷ rest) x e held =
-    let meet = none_pass (meets a) (b ∷ rest) e in
-    let fails : meets a b ≡ false = meet zero b (omega arith) in
-    let outside = meets_not a b x fails held in
+    let meet = none_pass (shares_address a) (b ∷ rest) e in
+    let fails : shares_address a b ≡ false = meet zero b (omega arith) in
+    let outside = apart_not a b x fails held in
     sum_by-cons (worth x) (load_range b) (map load_range rest)
     ∙ ap (λ n. n + sum_by (worth x) (map load_range rest)) (cond-false (range_holds x (load_range b)) 1 0 outside)
-    ∙ omega (arith, none_hold a rest x (sym (cond-false (meets a b) (Some b) (find (meets a) rest) fails) ∙ e) held)
+    ∙ omega (arith, none_hold a rest x
+    (sym (cond-false (shares_address a b) (Some b) (find (shares_address a) rest) fails) ∙ e) held)
 
 -- where no two segments meet, at most one holds x
 hold_once : (loads : List ProgramHeader) (x : ℕ) → overlap_fault loads ≡ None
@@ -61,7 +62,7 @@ hold_once : (loads : List ProgramHeader) (x : ℕ) → overlap_fault loads ≡ N
 hold_once [] x e = omega arith
 hold_once (a ∷ rest) x e =
     let parts = or_none _ (overlap_fault rest) e in
-    let none = map_none _ (find (meets a) rest) parts.0 in
+    let none = map_none _ (find (shares_address a) rest) parts.0 in
     let split = sum_by-cons (worth x) (load_range a) (map load_range rest) in
     elim (cases_Bool (range_holds x (load_range a))) [
       | inl held ↦
@@ -168,14 +169,15 @@ given_cases file (a ∷ rest) x =
           ]
     ]
 
-segments_of_loads : (file : List ℕ) (loads : List ProgramHeader)
-    → map (segment_in file) (map load_range loads) ≡ map (loaded file) loads
-segments_of_loads file [] = refl
-segments_of_loads file (a ∷ rest) = ap (λ l. loaded file a ∷ l) (segments_of_loads file rest)
+segments_of_ranges : (file : List ℕ) (loads : List ProgramHeader)
+    → map (segment_in file) (map load_range loads) ≡ map (segment_of file) loads
+segments_of_ranges file [] = refl
+segments_of_ranges file (a ∷ rest) = ap (λ l. segment_of file a ∷ l) (segments_of_ranges file rest)
 
 pub sorted_same : (loads : List ProgramHeader) (table : List Range) → IsPermutation (map load_range loads) table
     → AllPairs EndsBefore table
-    → (file : List ℕ) (x : ℕ) → segment_byte (map (segment_in file) table) x ≡ segment_byte (map (loaded file) loads) x
+    → (file : List ℕ) (x : ℕ)
+    → segment_byte (map (segment_in file) table) x ≡ segment_byte (map (segment_of file) loads) x
 sorted_same loads table moved apart file x =
     let ranges = map load_range loads in
     let same : segment_byte (map (segment_in file) table) x ≡ segment_byte (map (segment_in file) ranges) x =
@@ -188,4 +190,4 @@ sorted_same loads table moved apart file x =
           segment_byte-none file table x (All-permutation (λ r. range_holds x r ≡ false) ranges table moved outside)
           ∙ sym (segment_byte-none file ranges x outside)
     ] in
-    same ∙ ap (λ l. segment_byte l x) (segments_of_loads file loads)
+    same ∙ ap (λ l. segment_byte l x) (segments_of_ranges file loads)

@@ -6,7 +6,7 @@ use Rattle.elf_image.specs.declared.program.ProgramHeader.{ProgramHeader}
 use Rattle.elf_image.specs.declared.ram.Ram.{Ram}
 use Rattle.elf_image.specs.declared.range.Range.{Range}
 use Rattle.elf_image.specs.declared.fault.ImageFault.{ImageFault}
-use Rattle.elf_image.specs.Elf.{elf_of, header_fault, loads, loads_fault, loads_image, overlap_fault, segment_fault}
+use Rattle.elf_image.specs.Elf.{elf_of, header_fault, loadable, loads_fault, loads_image, overlap_fault, segment_fault}
 use Rattle.elf_image.specs.Faults.{file_fault, limit_fault}
 use Rattle.tandem_base.specs.FirstFault.{passed, unless}
 use Rattle.elf_image.specs.Images.{Loaded, loaded_of, Segment, Span, byte_of, segment_byte, ram_byte}
@@ -61,7 +61,7 @@ some_wrong (Some other) fault e = cc
 -- a file whose header is right means what its segments mean
 pub header_read : (bytes : List ℕ) (rams : List Ram) → file_fault bytes ≡ None → header_fault bytes ≡ None
     → elf_of bytes rams
-    ≡ unless (loads_fault (length bytes) (loads bytes) rams) (loads_image bytes (loads bytes) rams)
+    ≡ unless (loads_fault (length bytes) (loadable bytes) rams) (loads_image bytes (loadable bytes) rams)
 header_read bytes rams short right = rw (short, right) refl
 
 -- and one whose header isn't means its fault

@@ -1,4 +1,4 @@
--- Ranges in the order of their bases, each widened to reach as far as those before it.
+-- Ranges in the order of their bases, each all_reaching to reach as far as those before it.
 use Rattle.std.proofs.Common.{◌≡◌, ◌∙◌, ℕ, zero, suc, ◌≤◌, Bool, true, false, cond, ◌||◌, List, [], ◌∷◌, map, refl, sym}
 use Rattle.std.proofs.Common.{ap, arith, Option, None, Some}
 use Rattle.std.specs.List.{All, AllPairs, find, list_any}
@@ -13,7 +13,7 @@ use Rattle.elf_image.specs.declared.range.Range.{Range}
 use Rattle.elf_image.specs.Images.{Span, ram_byte}
 use Rattle.tandem_base.specs.Extents.{is_among}
 use Rattle.elf_image.specs.Rams.{span_of}
-use Rattle.elf_image.specs.Tables.{Climbs, nowhere, ram_range, range_holds, reaching, span_in, widened}
+use Rattle.elf_image.specs.Tables.{Climbs, nowhere, ram_range, range_holds, reaching, span_in, all_reaching}
 use Rattle.elf_image.proofs.Located.{ends_below}
 
 -- bases that rise, one range on
@@ -32,21 +32,21 @@ climbs_on : (a b : Range) → Climbs a b → (c : Range) → Climbs b c → Clim
 climbs_on a b ab c bc = (omega arith, omega arith)
 
 widened_above : (before : Range) (ranges : List Range) → All (λ r. before.base ≤ r.base) ranges
-    → IsNonDecreasingBy (λ r. r.base) ranges → All (Climbs before) (widened before ranges)
+    → IsNonDecreasingBy (λ r. r.base) ranges → All (Climbs before) (all_reaching before ranges)
 widened_above before [] above rise = All-nil (Climbs before)
 widened_above before (r ∷ rest) above rise =
     let wide = reaching before r in
     let here = reaching_climbs before r (above zero r (omega arith)) in
-    All-cons (Climbs before) wide (widened wide rest) here
-    (All-weaker (Climbs wide) (Climbs before) (climbs_on before wide here) (widened wide rest)
+    All-cons (Climbs before) wide (all_reaching wide rest) here
+    (All-weaker (Climbs wide) (Climbs before) (climbs_on before wide here) (all_reaching wide rest)
     (widened_above wide rest (first_lowest r rest rise) (rise_tail r rest rise)))
 
 pub widened_climb : (before : Range) (ranges : List Range) → IsNonDecreasingBy (λ r. r.base) ranges
-    → AllPairs Climbs (widened before ranges)
+    → AllPairs Climbs (all_reaching before ranges)
 widened_climb before [] rise = λ i j d lt below. absurd (omega arith)
 widened_climb before (r ∷ rest) rise =
     let wide = reaching before r in
-    AllPairs-cons Climbs wide (widened wide rest)
+    AllPairs-cons Climbs wide (all_reaching wide rest)
     (widened_above wide rest (first_lowest r rest rise) (rise_tail r rest rise))
     (widened_climb wide rest (rise_tail r rest rise))
 
@@ -61,7 +61,7 @@ or_next false w r a e = ap (λ v. v || a) e
 
 widened_same : (x : ℕ) (before : Range) (ranges : List Range) → All (λ r. before.base ≤ r.base) ranges
     → IsNonDecreasingBy (λ r. r.base) ranges
-    → (range_holds x before || list_any (range_holds x) (widened before ranges))
+    → (range_holds x before || list_any (range_holds x) (all_reaching before ranges))
     ≡ (range_holds x before || list_any (range_holds x) ranges)
 widened_same x before [] above rise = refl
 widened_same x before (r ∷ rest) above rise =
@@ -91,11 +91,11 @@ spans_of_ram (r ∷ rest) = ap (λ l. span_of r ∷ l) (spans_of_ram rest)
 
 pub ram_table_same : (rams : List Ram) (sorted : List Range) → IsPermutation (map ram_range rams) sorted
     → IsNonDecreasingBy (λ r. r.base) sorted
-    → (x : ℕ) → ram_byte (map span_in (widened nowhere sorted)) x ≡ ram_byte (map span_of rams) x
+    → (x : ℕ) → ram_byte (map span_in (all_reaching nowhere sorted)) x ≡ ram_byte (map span_of rams) x
 ram_table_same rams sorted moved rise x =
     let none : range_holds x nowhere ≡ false = ends_below nowhere x (omega arith) in
     let wide = rw none at (widened_same x nowhere sorted (λ k d below. omega arith) rise) in
-    ram_byte-any (widened nowhere sorted) x
+    ram_byte-any (all_reaching nowhere sorted) x
     ∙ ap (λ (b : Bool). cond b (Some 0) None) wide
     ∙ ap (λ (b : Bool). cond b (Some 0) None)
     (sym (list_any-IsPermutation (range_holds x) (map ram_range rams) sorted moved))

@@ -3,7 +3,6 @@ use Rattle.std.specs.Prelude.{ℕ, ◌+◌, ◌*◌, ◌%◌, ◌^◌, ◌==◌,
 use Rattle.std.specs.Prelude.{[], ◌∷◌, map, length, sum_by, take, drop, slice_index, Option, None, Some, Result}
 use Rattle.std.specs.List.{filter, find, range_with_len, starts_with}
 use Rattle.std.specs.Option.{option_map}
-use Rattle.std.specs.Int.{w16, w32, w64, from_le_bytes}
 use Rattle.elf_image.specs.declared.fault.ImageFault.{ImageFault}
 use Rattle.elf_image.specs.declared.fault.ImageFault.TheVariants as fault
 use Rattle.elf_image.specs.declared.program.ProgramHeader.{ProgramHeader}
@@ -11,19 +10,8 @@ use Rattle.elf_image.specs.declared.ram.Ram.{Ram}
 use Rattle.elf_image.specs.Images.{Segment, Loaded, loaded_of}
 use Rattle.elf_image.specs.Rams.{span_of}
 use Rattle.elf_image.specs.Faults.{file_fault, limit_fault}
+use Rattle.tandem_base.specs.Fields.{u16_at, u32_at, u64_at}
 use Rattle.tandem_base.specs.FirstFault.{◌or_else◌, unless}
-
--- the little-endian number of 2 bytes at an offset
-abbrev pub u16_at : ℕ → List ℕ → ℕ
-u16_at offset bytes = from_le_bytes w16 (take 2 (drop offset bytes))
-
--- that of 4 bytes
-abbrev pub u32_at : ℕ → List ℕ → ℕ
-u32_at offset bytes = from_le_bytes w32 (take 4 (drop offset bytes))
-
--- that of 8 bytes
-abbrev pub u64_at : ℕ → List ℕ → ℕ
-u64_at offset bytes = from_le_bytes w64 (take 8 (drop offset bytes))
 
 -- where a run begins: e_entry of the file header
 abbrev pub entry_of : List ℕ → ℕ
@@ -80,12 +68,12 @@ program_header bytes index =
     }
 
 -- a segment to be loaded, PT_LOAD, that takes memory
-abbrev pub is_load : ProgramHeader → Bool
-is_load header = (header.kind == 1) && nat_lt 0 header.size
+abbrev pub is_loadable : ProgramHeader → Bool
+is_loadable header = (header.kind == 1) && nat_lt 0 header.size
 
 -- those of the file, in the table's order
-abbrev pub loads : List ℕ → List ProgramHeader
-loads bytes = filter is_load (map (program_header bytes) (range_with_len 0 (header_count bytes)))
+abbrev pub loadable : List ℕ → List ProgramHeader
+loadable bytes = filter is_loadable (map (program_header bytes) (range_with_len 0 (header_count bytes)))
 
 -- file bytes past the file's end, more of them than the segment has, or addresses past 2^64;
 -- an empty run of file bytes lies anywhere
@@ -100,18 +88,18 @@ abbrev pub segment_fault : ℕ → List ProgramHeader → Option ImageFault
 segment_fault file_len loads = option_map (λ h. fault.Segment h.index) (find (is_misplaced file_len) loads)
 
 -- two ranges share an address
-abbrev pub meets : ProgramHeader → ProgramHeader → Bool
-meets a b = nat_lt a.address (b.address + b.size) && nat_lt b.address (a.address + a.size)
+abbrev pub shares_address : ProgramHeader → ProgramHeader → Bool
+shares_address a b = nat_lt a.address (b.address + b.size) && nat_lt b.address (a.address + a.size)
 
 -- the first segment that shares an address with a later one, and the first such later one
 abbrev pub overlap_fault : List ProgramHeader → Option ImageFault
 overlap_fault [] = None
 overlap_fault (a ∷ rest) =
-    option_map (λ b. fault.Overlap a.index b.index) (find (meets a) rest) or_else overlap_fault rest
+    option_map (λ b. fault.Overlap a.index b.index) (find (shares_address a) rest) or_else overlap_fault rest
 
 -- the segment that a program header loads
-abbrev pub loaded : List ℕ → ProgramHeader → Segment
-loaded bytes header =
+abbrev pub segment_of : List ℕ → ProgramHeader → Segment
+segment_of bytes header =
     record { base = header.address; bytes = take header.file_size (drop header.offset bytes); size = header.size }
 
 -- the first fault of the segments to be loaded from a file of that length, and RAM
@@ -124,11 +112,11 @@ loads_fault file_len headers rams =
 -- the image of the segments to be loaded from these bytes, and RAM
 abbrev pub loads_image : List ℕ → List ProgramHeader → List Ram → Loaded
 loads_image bytes headers rams =
-    loaded_of (record { entry = entry_of bytes; segments = map (loaded bytes) headers; rams = map span_of rams })
+    loaded_of (record { entry = entry_of bytes; segments = map (segment_of bytes) headers; rams = map span_of rams })
 
 -- an ELF64 file and RAM: the image, or the first fault
 abbrev pub elf_of : List ℕ → List Ram → Result Loaded ImageFault
 elf_of bytes rams =
     unless
-    (file_fault bytes or_else header_fault bytes or_else loads_fault (length bytes) (loads bytes) rams)
-    (loads_image bytes (loads bytes) rams)
+    (file_fault bytes or_else header_fault bytes or_else loads_fault (length bytes) (loadable bytes) rams)
+    (loads_image bytes (loadable bytes) rams)

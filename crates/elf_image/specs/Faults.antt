@@ -7,7 +7,7 @@ use Rattle.elf_image.specs.declared.fault.TooLarge.TheVariants as limit
 use Rattle.elf_image.specs.declared.limits.TheConstants.{MOST_FILE_BYTES}
 use Rattle.elf_image.specs.Images.{ImageOf, Loaded, loaded_of}
 
--- a file above 2^28 bytes: it is read up to one byte past that limit
+-- a file of too many bytes: it is read up to one byte past the limit
 abbrev pub file_fault : List ℕ → Option ImageFault
 file_fault bytes =
     if nat_lt MOST_FILE_BYTES (length bytes) then Some (fault.TooLarge (limit.File (MOST_FILE_BYTES + 1))) else None

@@ -47,15 +47,17 @@ abbrev pub loaded_of : ImageOf → Loaded
 loaded_of image = record { entry = image.entry; byte_at = byte_of image }
 
 -- the number in four bytes, lowest first
-abbrev pub word_of : Option ℕ → Option ℕ → Option ℕ → Option ℕ → Option ℕ
-word_of (Some a) (Some b) (Some c) (Some d) = Some (from_le_bytes w32 (a ∷ b ∷ c ∷ d ∷ []))
-word_of _ _ _ _ = None
+abbrev pub word_of_bytes : Option ℕ → Option ℕ → Option ℕ → Option ℕ → Option ℕ
+word_of_bytes (Some a) (Some b) (Some c) (Some d) = Some (from_le_bytes w32 (a ∷ b ∷ c ∷ d ∷ []))
+word_of_bytes _ _ _ _ = None
 
 -- the word at an address, None where one of its bytes has no range or is past 2^64
 unfoldable pub word_at : Loaded → ℕ → Option ℕ
 word_at image addr =
     if nat_le addr (2 ^ 64 - 4)
-    then word_of (image.byte_at addr) (image.byte_at (addr + 1)) (image.byte_at (addr + 2)) (image.byte_at (addr + 3))
+    then
+        word_of_bytes (image.byte_at addr) (image.byte_at (addr + 1)) (image.byte_at (addr + 2))
+        (image.byte_at (addr + 3))
     else None
 
 -- every byte of the extent is in a range

@@ -5,7 +5,7 @@ use Rattle.std.specs.List.{All, AllPairs}
 use Rattle.elf_image.specs.declared.program.ProgramHeader.{ProgramHeader}
 use Rattle.elf_image.specs.declared.ram.Ram.{Ram}
 use Rattle.elf_image.specs.declared.range.Range.{Range}
-use Rattle.elf_image.specs.Images.{Segment, Span, ImageOf, word_of}
+use Rattle.elf_image.specs.Images.{Segment, Span, ImageOf, word_of_bytes}
 use Rattle.tandem_base.specs.Extents.{is_among}
 use Rattle.elf_image.specs.Rams.{span_of}
 
@@ -25,7 +25,7 @@ range_byte file range x = slice_index (segment_in file range).bytes (x - range.b
 -- the word of a range of this file at an address from which it holds four bytes
 abbrev pub range_word : List ℕ → Range → ℕ → Option ℕ
 range_word file range x =
-    word_of (Some (range_byte file range x)) (Some (range_byte file range (x + 1)))
+    word_of_bytes (Some (range_byte file range x)) (Some (range_byte file range (x + 1)))
     (Some (range_byte file range (x + 2))) (Some (range_byte file range (x + 3)))
 
 -- the RAM that a range is
@@ -68,9 +68,9 @@ reaching before range =
     record { base = range.base; size = max range.size (before.size - (range.base - before.base)); start = 0; len = 0 }
 
 -- the ranges after one, each reaching at least as far as the one before it
-abbrev pub widened : Range → List Range → List Range
-widened before [] = []
-widened before (range ∷ rest) = reaching before range ∷ widened (reaching before range) rest
+abbrev pub all_reaching : Range → List Range → List Range
+all_reaching before [] = []
+all_reaching before (range ∷ rest) = reaching before range ∷ all_reaching (reaching before range) rest
 
 -- the range of RAM
 abbrev pub ram_range : Ram → Range

@@ -10,7 +10,7 @@ use crate::fault::ImageFault;
 use crate::header::{check_header, entry};
 use crate::image::Image;
 use crate::limits::{check_file, check_limits, ram_size};
-use crate::program::{ProgramHeader, check_overlap, check_segments, load_size, loads};
+use crate::program::{ProgramHeader, check_overlap, check_segments, load_size, loadable};
 use crate::ram::Ram;
 use crate::segments::segment_table;
 use std::alloc::Global;
@@ -30,7 +30,7 @@ impl Image {
     {
         check_file(bytes)?;
         check_header(bytes)?;
-        let loads = loads(alloc, bytes)?;
+        let loads = loadable(alloc, bytes)?;
         load(alloc, bytes, &loads, rams)
     }
 }

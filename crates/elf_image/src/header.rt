@@ -4,10 +4,10 @@ ghost use Rattle.std.specs.Prelude.{◌≡◌, ◌%◌, ◌≤◌, true, false, 
 ghost use Rattle.tandem_base.specs.FirstFault.{passed};
 ghost use Rattle.elf_image.specs.declared.limits.TheConstants.{MOST_FILE_BYTES};
 ghost use Rattle.elf_image.specs.Elf.{entry_of, table_offset, header_count, has_class, has_entry_size, has_table};
-ghost use Rattle.elf_image.specs.Elf.{header_fault, loads};
+ghost use Rattle.elf_image.specs.Elf.{header_fault, loadable};
 
 use crate::fault::ImageFault;
-use crate::number::{u16_at, u64_at};
+use tandem_base::{u16_at, u64_at};
 
 /// The file type of an executable, ET_EXEC.
 const EXECUTABLE: u16 = 2;
@@ -33,10 +33,10 @@ pub fn check_header(bytes: &[u8]) -> Result<(), ImageFault>
     if !has_class(bytes) {
         return Err(ImageFault::Class);
     }
-    if u16_at(bytes, 16) != EXECUTABLE {
+    if u16_at(16, bytes) != EXECUTABLE {
         return Err(ImageFault::Kind);
     }
-    if u16_at(bytes, 18) != RISC_V {
+    if u16_at(18, bytes) != RISC_V {
         return Err(ImageFault::Machine);
     }
     if entry(bytes) % 4 != 0 {
@@ -56,7 +56,7 @@ pub fn entry(bytes: &[u8]) -> u64
     requires { 64 ≤ length bytes.now }
     ensures { result ≡ entry_of bytes.now }
 {
-    u64_at(bytes, 24)
+    u64_at(24, bytes)
 }
 
 /// Where the program header table begins in the file.
@@ -64,7 +64,7 @@ pub fn table_offset(bytes: &[u8]) -> u64
     requires { 64 ≤ length bytes.now }
     ensures { result ≡ table_offset bytes.now }
 {
-    u64_at(bytes, 32)
+    u64_at(32, bytes)
 }
 
 /// How many entries it has.
@@ -72,7 +72,7 @@ pub fn header_count(bytes: &[u8]) -> u16
     requires { 64 ≤ length bytes.now }
     ensures { result ≡ header_count bytes.now }
 {
-    u16_at(bytes, 56)
+    u16_at(56, bytes)
 }
 
 /// Whether the file is ELF64, little-endian, of version 1.
@@ -88,7 +88,7 @@ fn has_entry_size(bytes: &[u8]) -> bool
     requires { 64 ≤ length bytes.now }
     ensures { result ≡ has_entry_size bytes.now }
 {
-    header_count(bytes) == 0 || u64::from(u16_at(bytes, 54)) == ENTRY_SIZE
+    header_count(bytes) == 0 || u64::from(u16_at(54, bytes)) == ENTRY_SIZE
 }
 
 /// Whether the table lies within the file, where it has entries.

@@ -7,7 +7,6 @@ mod flat;
 mod header;
 mod image;
 mod limits;
-mod number;
 mod program;
 mod ram;
 mod range;
@@ -16,7 +15,7 @@ mod table;
 
 pub use fault::{ImageFault, TooLarge};
 pub use image::Image;
-pub use limits::MOST_FILE_BYTES;
+pub use limits::{MOST_FILE_BYTES, most_file_bytes_has_its_number};
 pub use ram::Ram;
 
 #[cfg(test)]

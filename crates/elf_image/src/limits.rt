@@ -8,14 +8,19 @@ ghost use Rattle.elf_image.specs.Faults.{file_fault, limit_fault};
 use crate::fault::{ImageFault, TooLarge};
 use crate::ram::Ram;
 
-/// The most bytes that an image file may have.
+/// The most bytes that an image file may have: 2^28.
 pub const MOST_FILE_BYTES: usize = 1 << 28;
 
 /// The most segments and RAM ranges that an image may have.
-const MOST_RANGES: u64 = 64;
+pub const MOST_RANGES: u64 = 64;
 
-/// The most bytes that they may have together.
-const MOST_BYTES: u128 = 1 << 40;
+/// The most bytes that they may have together: 2^40.
+pub const MOST_BYTES: u128 = 1 << 40;
+
+/// The most bytes of a file are 2^28: a law, with nothing to do.
+pub fn most_file_bytes_has_its_number()
+    ensures { MOST_FILE_BYTES ≡ 2 ^ 28 }
+{}
 
 /// The fault of a file that is too long.
 pub fn check_file(bytes: &[u8]) -> Result<(), ImageFault>

@@ -4,12 +4,12 @@ ghost use Rattle.std.specs.Prelude.{◌≡◌, ◌+◌, ◌*◌, ◌^◌, ◌<�
 ghost use Rattle.std.specs.List.{All, find};
 ghost use Rattle.std.specs.Option.{option_map};
 ghost use Rattle.tandem_base.specs.FirstFault.{passed};
-ghost use Rattle.elf_image.specs.Elf.{header_count, table_offset, has_table, program_header, meets, loads};
+ghost use Rattle.elf_image.specs.Elf.{header_count, table_offset, has_table, program_header, shares_address, loadable};
 ghost use Rattle.elf_image.specs.Elf.{overlap_fault, segment_fault};
 
 use crate::fault::ImageFault;
 use crate::header::{ENTRY_SIZE, header_count, table_offset};
-use crate::number::{u32_at, u64_at};
+use tandem_base::{u32_at, u64_at};
 use std::alloc::{AllocError, Global};
 
 /// The type of a segment that is loaded, PT_LOAD.
@@ -18,21 +18,27 @@ const LOAD: u32 = 1;
 /// A program header: its place in the table, and the fields that say what is loaded.
 #[derive(Clone, Copy, Debug)]
 pub struct ProgramHeader {
+    /// The place in the table, from 0.
     pub index: u16,
+    /// The type of the segment, p_type.
     pub kind: u32,
+    /// The offset of its bytes in the file, p_offset.
     pub offset: u64,
+    /// Its physical address, p_paddr.
     pub address: u64,
+    /// How many bytes of it stand in the file, p_filesz.
     pub file_size: u64,
+    /// How many bytes it has in memory, p_memsz.
     pub size: u64,
 }
 
 impl ProgramHeader {
     ghost use Rattle.std.specs.Prelude.{◌≡◌, ◌<◌};
-    ghost use Rattle.elf_image.specs.Elf.{is_load, is_misplaced, meets};
+    ghost use Rattle.elf_image.specs.Elf.{is_loadable, is_misplaced, shares_address};
 
     /// Whether it loads a segment that takes memory.
-    fn is_load(&self) -> bool
-        ensures { result ≡ is_load self.now }
+    fn is_loadable(&self) -> bool
+        ensures { result ≡ is_loadable self.now }
     {
         self.kind == LOAD && self.size > 0
     }
@@ -50,8 +56,8 @@ impl ProgramHeader {
     }
 
     /// Whether the two segments share an address.
-    fn meets(&self, other: &ProgramHeader) -> bool
-        ensures { result ≡ meets self.now other.now }
+    fn shares_address(&self, other: &ProgramHeader) -> bool
+        ensures { result ≡ shares_address self.now other.now }
     {
         let end = u128::from(self.address) + u128::from(self.size);
         let other_end = u128::from(other.address) + u128::from(other.size);
@@ -68,25 +74,25 @@ fn program_header(bytes: &[u8], index: u16) -> ProgramHeader
     let at = (table_offset(bytes) + ENTRY_SIZE * u64::from(index)) as usize;
     ProgramHeader {
         index,
-        kind: u32_at(bytes, at),
-        offset: u64_at(bytes, at + 8),
-        address: u64_at(bytes, at + 24),
-        file_size: u64_at(bytes, at + 32),
-        size: u64_at(bytes, at + 40),
+        kind: u32_at(at, bytes),
+        offset: u64_at(at + 8, bytes),
+        address: u64_at(at + 24, bytes),
+        file_size: u64_at(at + 32, bytes),
+        size: u64_at(at + 40, bytes),
     }
 }
 
 /// The program headers that load a segment, in the table's order.
-pub fn loads(alloc: Global, bytes: &[u8]) -> Result<Vec<ProgramHeader>, AllocError>
+pub fn loadable(alloc: Global, bytes: &[u8]) -> Result<Vec<ProgramHeader>, AllocError>
     requires whole { 64 ≤ length bytes.now }
     requires table { has_table bytes.now ≡ true }
-    ensures found { IfOk result (λ found. found.items ≡ loads bytes.now) }
+    ensures found { IfOk result (λ found. found.items ≡ loadable bytes.now) }
     ensures sized { IfOk result (λ found. All (λ load. 0 < load.size) found.items) }
 {
     let mut found = Vec::new(alloc);
     for index in 0..header_count(bytes) {
         let header = program_header(bytes, index);
-        if header.is_load() {
+        if header.is_loadable() {
             found.push(header)?;
         }
     }
@@ -131,10 +137,10 @@ pub fn check_overlap(loads: &[ProgramHeader]) -> Result<(), ImageFault>
 
 /// The index of the first of these segments that shares an address with one.
 fn meeting(load: &ProgramHeader, others: &[ProgramHeader]) -> Option<u16>
-    ensures { result ≡ option_map (λ other. other.index) (find (meets load.now) others.now) }
+    ensures { result ≡ option_map (λ other. other.index) (find (shares_address load.now) others.now) }
 {
     for other in others {
-        if load.meets(other) {
+        if load.shares_address(other) {
             return Some(other.index);
         }
     }

@@ -8,9 +8,13 @@ ghost use Rattle.elf_image.specs.Tables.{Climbs, range_holds};
 /// `start` on, none for RAM.
 #[derive(Clone, Copy, Debug)]
 pub struct Range {
+    /// The lowest address.
     pub base: u64,
+    /// How many addresses.
     pub size: u64,
+    /// The offset in the file of the first byte of the run.
     pub start: u64,
+    /// How many bytes the run has.
     pub len: u64,
 }
 

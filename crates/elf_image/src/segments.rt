@@ -2,7 +2,7 @@
 
 ghost use Rattle.std.specs.Prelude.{◌≡◌, ◌<◌, ℕ, List, None, IfOk, length, map};
 ghost use Rattle.std.specs.List.{All, AllPairs, find};
-ghost use Rattle.elf_image.specs.Elf.{is_misplaced, loaded, overlap_fault};
+ghost use Rattle.elf_image.specs.Elf.{is_misplaced, segment_of, overlap_fault};
 ghost use Rattle.elf_image.specs.Images.{segment_byte};
 ghost use Rattle.elf_image.specs.Tables.{EndsBefore, IsInFile, load_range, segment_in};
 
@@ -19,7 +19,7 @@ pub fn segment_table(alloc: Global, loads: &[ProgramHeader]) -> Result<Vec<Range
     ensures in_file { IfOk result (λ table. (file : List ℕ) → find (is_misplaced (length file)) loads.now ≡ None
         → All (IsInFile file) table.items) }
     ensures same { IfOk result (λ table. (file : List ℕ) (x : ℕ)
-        → segment_byte (map (segment_in file) table.items) x ≡ segment_byte (map (loaded file) loads.now) x) }
+        → segment_byte (map (segment_in file) table.items) x ≡ segment_byte (map (segment_of file) loads.now) x) }
 {
     Ok(sorted(load_ranges(alloc, loads)?))
 }

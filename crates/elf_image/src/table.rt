@@ -5,7 +5,7 @@ ghost use Rattle.std.specs.List.{AllPairs};
 ghost use Rattle.std.specs.List.Sorted.{IsNonDecreasingBy, IsPermutation};
 ghost use Rattle.elf_image.specs.Images.{ram_byte};
 ghost use Rattle.elf_image.specs.Rams.{span_of};
-ghost use Rattle.elf_image.specs.Tables.{Climbs, nowhere, ram_range, reaching, span_in, widened};
+ghost use Rattle.elf_image.specs.Tables.{Climbs, nowhere, ram_range, reaching, span_in, all_reaching};
 
 use crate::ram::Ram;
 use crate::range::Range;
@@ -37,7 +37,7 @@ fn ram_ranges(alloc: Global, rams: &[Ram]) -> Result<Vec<Range>, AllocError>
 
 /// The ranges, each reaching as far as those before it. Together they hold the same addresses.
 fn widen(alloc: Global, ranges: Vec<Range>) -> Result<Vec<Range>, AllocError>
-    ensures { IfOk result (λ wide. wide.items ≡ widened nowhere ranges.items) }
+    ensures { IfOk result (λ wide. wide.items ≡ all_reaching nowhere ranges.items) }
 {
     let mut wide = Vec::new(alloc);
     let mut before = Range {

@@ -1,3 +1,5 @@
+//! Files made here byte by byte: their images at each address, and their first faults.
+
 mod linked;
 
 use crate::{Image, ImageFault, Ram, TooLarge};

@@ -9,12 +9,14 @@ use Rattle.rvwmo_model.specs.declared.instructions.Retired.{Retired}
 use Rattle.rvwmo_model.specs.declared.operations.Op.{Op}
 use Rattle.rvwmo_model.specs.declared.operations.OpKind.TheVariants as kind
 use Rattle.rvwmo_model.specs.declared.traces.Trace.{Trace}
-use Rattle.rvwmo_model.specs.Order.{covers}
+use Rattle.tandem_base.specs.Extents.{Covers}
+use Rattle.rvwmo_model.specs.Order.{has_byte}
 use Rattle.rvwmo_model.specs.ProgramOrder.{insn_of, is_one}
 use Rattle.rvwmo_model.specs.Atomicity.{IsPair, IsWithin}
 use Rattle.rvwmo_model.specs.InForm.{IsPlaced}
 use Rattle.rvwmo_model.proofs.Membership.{nothing_in}
-use Rattle.growth_laws.specs.Kinds.{is_store, kind_of_insn, kind_of, SameInsn, IsNamed, InExtent, IsPlainStore}
+use Rattle.rv_decode.specs.Kinds.{is_store, is_lr, is_sc, is_amo_or_sc}
+use Rattle.growth_laws.specs.Kinds.{kind_of_insn, kind_of, SameInsn, IsNamed, IsPlainStore}
 use Rattle.growth_laws.specs.Kinds.{IsPlainAnnotated, WellKinded}
 use Rattle.growth_laws.specs.Growth.{AddsStore, Adds, adds_loads, adds_store, adds_atomic, adds_nothing, AddInsn}
 use Rattle.growth_laws.proofs.Places.{not_both}
@@ -23,7 +25,7 @@ use Rattle.growth_laws.proofs.Lawful.{stored_sc, pair_on}
 use Rattle.growth_laws.proofs.PlainStores.{store_sc}
 use Rattle.growth_laws.proofs.Operations.{op_older, insn_still, insn_ops}
 use Rattle.growth_laws.proofs.Steps.{only}
-use Rattle.rvwmo_model.specs.InsnKinds.{is_lr, is_sc, is_amo_or_sc, has_stored}
+use Rattle.rvwmo_model.specs.InsnKinds.{has_stored}
 
 pub lr_kind : (i : Insn) (stored : Bool) → is_lr i ≡ true → kind_of_insn i stored ≡ Some kind.Load
 lr_kind (Lr wide aq rl rd rs1) stored e = refl
@@ -131,7 +133,7 @@ module _ (t t' : Trace) (r : Retired) (new : List Op) (k : WellKinded t) (s : Ad
   extents_of a b (inr h) (inl i) e = absurd (unlike b a i h (sym e.0, sym e.1))
   extents_of a b (inr h) (inr i) e = k.extents a b h i e
 
-  pub disjoint_of : (a b : Op) (x : ℕ) → Is a → Is b → SameInsn a b → covers x a ≡ true → covers x b ≡ true → a ≡ b
+  pub disjoint_of : (a b : Op) (x : ℕ) → Is a → Is b → SameInsn a b → has_byte x a ≡ true → has_byte x b ≡ true → a ≡ b
   disjoint_of a b x (inl h) (inl i) e c d = s.are_of.disjoint a b x h i c d
   disjoint_of a b x (inl h) (inr i) e c d = absurd (unlike a b h i e)
   disjoint_of a b x (inr h) (inl i) e c d = absurd (unlike b a i h (sym e.0, sym e.1))
@@ -176,15 +178,15 @@ module _ (t t' : Trace) (r : Retired) (new : List Op) (k : WellKinded t) (s : Ad
   unperformed_of a (inl h) e = unperformed_new a h e
   unperformed_of a (inr h) e = ap (is_one is_store) (old_insn a h) ∙ k.unperformed a h e
 
-  pub cover_of : (a : Op) (x : ℕ) → Is a → IsPlainStore t' a → InExtent a x → (v : Op) × Contains t'.ops v
-      × SameInsn v a × (covers x v ≡ true)
+  pub cover_of : (a : Op) (x : ℕ) → Is a → IsPlainStore t' a → Covers a.extent x → (v : Op) × Contains t'.ops v
+      × SameInsn v a × (has_byte x v ≡ true)
   cover_of a x (inl h) p e =
       let q = plain_adds a h p in (
         a,
         s.added a h,
         (refl, refl),
-        subst (λ (z : Op). covers x z ≡ true) (sym q.2)
-            (q.1.all x (subst (λ (z : Op). InExtent z x) q.2 e)),
+        subst (λ (z : Op). has_byte x z ≡ true) (sym q.2)
+            (q.1.all x (subst (λ (z : Op). Covers z.extent x) q.2 e)),
       )
   cover_of a x (inr h) p e =
       let v = k.cover a x h (ap (is_one is_store) (sym (old_insn a h)) ∙ p) e in

@@ -1,5 +1,5 @@
 -- What is wrong of old operations after a step was wrong before it, where sources are the same.
-use Rattle.std.proofs.Common.{ℕ, ◌<◌, ◌≡◌, ◌⊎◌, inl, inr, Bool, true, false, Option, Some, None, refl, sym, ap, subst}
+use Rattle.std.proofs.Common.{ℕ, ◌<◌, ◌≡◌, ◌⊎◌, inl, inr, true, Option, Some, None, refl, sym, ap, subst}
 use Rattle.std.proofs.Common.{◌∙◌}
 use Rattle.std.proofs.lemmas.Bool.{both_ways, and_parts, and_from}
 use Rattle.std.specs.List.{Contains}
@@ -9,10 +9,10 @@ use Rattle.rvwmo_model.specs.declared.preserved.Rule.{Rule}
 use Rattle.rvwmo_model.specs.declared.preserved.Rule.TheVariants.{R1, R2, R3, R4, R5, R6, R7, R8, R9, R10, R11, R12}
 use Rattle.rvwmo_model.specs.declared.preserved.Rule.TheVariants.{R13}
 use Rattle.rvwmo_model.specs.declared.traces.Trace.{Trace}
-use Rattle.rvwmo_model.specs.Order.{kind_stores, standing, precedes, writes, reads, covers, stores, everything}
+use Rattle.rvwmo_model.specs.Order.{kind_stores, standing, precedes, writes, reads, has_byte, stores, everything}
 use Rattle.rvwmo_model.specs.ProgramOrder.{insn_at, is_one}
 use Rattle.rvwmo_model.specs.Sources.{source, origin}
-use Rattle.rvwmo_model.specs.Rules.{SomeBetween, StoresTo, AddressOn, DataOn, Holds, Broken}
+use Rattle.rvwmo_model.specs.Rules.{SomeBetween, StoresTo, AddressOn, DataOn, Orders, Broken}
 use Rattle.rvwmo_model.specs.Atomicity.{IsPair, IsAfter, IsLate, IsTornAt, IntrudesBlock, Torn}
 use Rattle.rvwmo_model.specs.InForm.{IsPlaced}
 use Rattle.rvwmo_model.specs.Legal.{WrongValue}
@@ -25,7 +25,8 @@ use Rattle.growth_laws.proofs.Links.{OpsGo}
 use Rattle.growth_laws.proofs.SameInsns.{address_on, data_on, branch_on, paired_on}
 use Rattle.growth_laws.proofs.ReadOperations.{reads_still, reads_dependent_still}
 use Rattle.growth_laws.proofs.Lawful.{same_given, sc_placed}
-use Rattle.rvwmo_model.specs.InsnKinds.{is_amo_or_sc, fence_orders, has_stored}
+use Rattle.rv_decode.specs.Kinds.{is_amo_or_sc}
+use Rattle.rvwmo_model.specs.InsnKinds.{fence_orders, has_stored}
 
 -- a source that is too late was too late
 late_back : (t t' : Trace) (x : ℕ) (w : Op) → IsPlaced w → (o n : Option Op) → SameSource t t' x o n → IsLate n w
@@ -62,7 +63,7 @@ module _ (t t' : Trace) (k : WellKinded t) (k' : WellKinded t') (go : (x : ℕ) 
       → SomeBetween (StoresTo t' a.name.hart x) a b
   store_goes a b x s =
       let o = s.3.0 in
-      let w = and_parts (stores o) (covers x o) s.3.4 in
+      let w = and_parts (stores o) (has_byte x o) s.3.4 in
       let l = g.lift o x s.3.1 w.1 in (
         s.0,
         s.1,
@@ -72,14 +73,14 @@ module _ (t t' : Trace) (k : WellKinded t) (k' : WellKinded t') (go : (x : ℕ) 
 
   -- a rule between old operations held before, or a source changed
   pub holds_back : (r : Rule) (a b : Op) → Contains t.ops a → Contains t.ops b → b.name.hart ≡ a.name.hart
-      → a.name.tag < b.name.tag → Holds r t' a b → Holds r t a b ⊎ Q
+      → a.name.tag < b.name.tag → Orders r t' a b → Orders r t a b ⊎ Q
   holds_back r a b ha hb one lt = at r
     where
       still : (n : ℕ) → (n < b.name.tag) ⊎ (n ≡ b.name.tag) → insn_at t.insns a.name.hart n ≡ insn_at t'.insns
           a.name.hart n
       still n le = subst (λ (h : ℕ). insn_at t.insns h n ≡ insn_at t'.insns h n) one (sym (g.insns b n hb le))
 
-      at : (r : Rule) → Holds r t' a b → Holds r t a b ⊎ Q
+      at : (r : Rule) → Orders r t' a b → Orders r t a b ⊎ Q
       at R1 h = inl h
       at R2 h = elim (origin_back a h.0 ha h.1) [
         | inr c ↦ inr c

@@ -1,5 +1,5 @@
 -- What a well-kinded trace gives.
-use Rattle.std.proofs.Common.{ℕ, ◌+◌, ◌<◌, ◌≡◌, ◌≢◌, inl, inr, List, Bool, true, false, eqb, ltb, Option, Some, None}
+use Rattle.std.proofs.Common.{ℕ, ◌+◌, ◌<◌, ◌≡◌, ◌≢◌, inl, inr, List, Bool, true, false, eqb, ltb, Some, None}
 use Rattle.std.proofs.Common.{refl, sym, ap, ◌∙◌, arith}
 use Rattle.std.proofs.lemmas.Bool.{false≢true, both_ways, and_parts, eqb-true, ltb-true}
 use Rattle.std.specs.List.{Contains, AllPairs}
@@ -11,15 +11,15 @@ use Rattle.rvwmo_model.specs.declared.operations.Op.{Op}
 use Rattle.rvwmo_model.specs.declared.operations.OpKind.{OpKind}
 use Rattle.rvwmo_model.specs.declared.operations.OpKind.TheVariants as kind
 use Rattle.rvwmo_model.specs.declared.traces.Trace.{Trace}
-use Rattle.rvwmo_model.specs.Order.{kind_loads, kind_stores, loads, covers, precedes, everything}
-use Rattle.rvwmo_model.specs.ProgramOrder.{insn_of, is_one, is_older}
+use Rattle.rvwmo_model.specs.Order.{kind_loads, kind_stores, loads, has_byte, precedes, everything}
+use Rattle.rvwmo_model.specs.ProgramOrder.{insn_of, is_older}
 use Rattle.rvwmo_model.specs.InForm.{IsPlaced}
 use Rattle.rvwmo_model.proofs.LookUp.{found_in}
 use Rattle.rvwmo_model.proofs.Tested.{one_some}
 use Rattle.rvwmo_model.proofs.Totality.{stand_alike}
-use Rattle.growth_laws.specs.Kinds.{is_store, kind_of_insn, IsPlainStore, WellKinded}
+use Rattle.rv_decode.specs.Kinds.{is_store, is_amo_or_sc}
+use Rattle.growth_laws.specs.Kinds.{kind_of_insn, IsPlainStore, WellKinded}
 use Rattle.growth_laws.proofs.Places.{place_cases, not_both}
-use Rattle.rvwmo_model.specs.InsnKinds.{is_amo_or_sc}
 
 store_kind : (i : Insn) (stored : Bool) → is_store i ≡ true → kind_of_insn i stored ≡ Some kind.Store
 store_kind (Store op rs1 rs2 imm) stored e = refl
@@ -73,7 +73,7 @@ pub alike : (t : Trace) (a b : Op) → WellKinded t → Contains (everything t) 
 alike t a b k = stand_alike t a b k.form
 
 -- each operation has a byte
-pub some_byte_of : (t : Trace) (o : Op) → WellKinded t → Contains t.ops o → (x : ℕ) × (covers x o ≡ true)
+pub some_byte_of : (t : Trace) (o : Op) → WellKinded t → Contains t.ops o → (x : ℕ) × (has_byte x o ≡ true)
 some_byte_of t o k h = (o.extent.addr + o.name.part, (k.parts o h).here)
 
 pub older_parts : (a b : Op) → is_older a b ≡ true → (a.name.hart ≡ b.name.hart) × (a.name.tag < b.name.tag)

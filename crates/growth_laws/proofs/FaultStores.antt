@@ -8,14 +8,15 @@ use Rattle.rvwmo_model.specs.declared.preserved.Rule.{Rule}
 use Rattle.rvwmo_model.specs.declared.preserved.Rule.TheVariants.{R1, R2, R3, R4, R5, R6, R7, R8, R9, R10, R11, R12}
 use Rattle.rvwmo_model.specs.declared.preserved.Rule.TheVariants.{R13}
 use Rattle.rvwmo_model.specs.declared.traces.Trace.{Trace}
-use Rattle.rvwmo_model.specs.Order.{standing, covers, loads, kind_loads}
+use Rattle.rvwmo_model.specs.Order.{standing, has_byte, loads, kind_loads}
 use Rattle.rvwmo_model.specs.ProgramOrder.{insn_at, insn_of, is_one}
-use Rattle.rvwmo_model.specs.Rules.{Holds, Broken}
+use Rattle.rvwmo_model.specs.Rules.{Orders, Broken}
 use Rattle.rvwmo_model.specs.InForm.{IsPlaced}
 use Rattle.rvwmo_model.specs.Legal.{Legal}
 use Rattle.rvwmo_model.specs.Report.{number}
 use Rattle.rvwmo_model.proofs.Orders.{before_asym}
-use Rattle.growth_laws.specs.Kinds.{is_store, IsPlainStore, SameInsn, WellKinded}
+use Rattle.rv_decode.specs.Kinds.{is_store, is_lr, is_sc}
+use Rattle.growth_laws.specs.Kinds.{IsPlainStore, SameInsn, WellKinded}
 use Rattle.growth_laws.specs.Growth.{Performs}
 use Rattle.growth_laws.specs.Laws.{HasBroken, HasOverlap, IsLeastRule, BrokenByStores, StoresBreakPairs}
 use Rattle.growth_laws.proofs.Places.{not_both, placed_first}
@@ -27,7 +28,7 @@ use Rattle.growth_laws.proofs.PlainStores.{plain_not, store_lr, store_sc, plain_
 use Rattle.growth_laws.proofs.Parts.{IsOfWaiting, Stems, stems_old, stems_part, stems_left, performs_insns}
 use Rattle.growth_laws.proofs.Parts.{performs_back}
 use Rattle.growth_laws.proofs.ChainsBack.{chain_broken_back, chain_value_back, chain_torn_back}
-use Rattle.rvwmo_model.specs.InsnKinds.{is_lr, is_sc, fence_orders}
+use Rattle.rvwmo_model.specs.InsnKinds.{fence_orders}
 
 first_or_later : (j : Rule) → (j ≡ R1) ⊎ (number R1 < number j)
 first_or_later R1 = inl refl
@@ -79,7 +80,7 @@ module _ (initial : ℕ → ℕ) (t t' : Trace) (h : ℕ) (parts : List Op) (k :
     valued = λ i x v.
         let j = old i v.load_in
         (λ p. both_ways _ (ap kind_loads (plain_kind t' i k' v.load_in p))
-        (and_parts (loads i) (covers x i) v.loads).0) in
+        (and_parts (loads i) (has_byte x i) v.loads).0) in
         elim (chain_value_back initial t t' i x chain j.0 j.1 v) [ inl w ↦ legal.valued i x w | inr c ↦ whole c ];
     paired = λ w u. let r = k'.paired w u.sc_in u.stored in u.alone r.0 r.1 r.2;
     atomic = λ r w p.
@@ -115,12 +116,12 @@ module _ (initial : ℕ → ℕ) (t t' : Trace) (h : ℕ) (parts : List Op) (k :
 
   -- these rules held before, of what had the bytes of a
   held : (j : Rule) (a o b : Op) → (j ≡ R1) ⊎ (j ≡ R4) ⊎ (j ≡ R6) → SameInsn a o → IsLike a o
-      → ((x : ℕ) → covers x a ≡ true → covers x o ≡ true) → Holds j t' a b → Holds j t o b
+      → ((x : ℕ) → has_byte x a ≡ true → has_byte x o ≡ true) → Orders j t' a b → Orders j t o b
   held j a o b r same like bytes = at r
     where
-      at : (j ≡ R1) ⊎ (j ≡ R4) ⊎ (j ≡ R6) → Holds j t' a b → Holds j t o b
-      at (inl q) = subst (λ (z : Rule). Holds z t' a b → Holds z t o b) (sym q) (λ e. (e.0, bytes e.0 e.1, e.2))
-      at (inr (inl q)) = subst (λ (z : Rule). Holds z t' a b → Holds z t o b) (sym q)
+      at : (j ≡ R1) ⊎ (j ≡ R4) ⊎ (j ≡ R6) → Orders j t' a b → Orders j t o b
+      at (inl q) = subst (λ (z : Rule). Orders z t' a b → Orders z t o b) (sym q) (λ e. (e.0, bytes e.0 e.1, e.2))
+      at (inr (inl q)) = subst (λ (z : Rule). Orders z t' a b → Orders z t o b) (sym q)
           (λ e. (
             e.0,
             rw (← same.1) e.1,
@@ -128,7 +129,7 @@ module _ (initial : ℕ → ℕ) (t t' : Trace) (h : ℕ) (parts : List Op) (k :
             rw (← same.0, ← like.kind)
                 (ap (is_one (λ w. fence_orders w a.kind b.kind)) (sym (insns a.name.hart e.0)) ∙ e.3),
           ))
-      at (inr (inr q)) = subst (λ (z : Rule). Holds z t' a b → Holds z t o b) (sym q) (λ e. e)
+      at (inr (inr q)) = subst (λ (z : Rule). Orders z t' a b → Orders z t o b) (sym q) (λ e. e)
 
   -- the second operation wasn't performed before
   second_new : (j : Rule) (a b : Op) → IsLeastRule t' j → Broken j t' a b → Contains t.ops b → IsPlaced b → ⊥

@@ -25,7 +25,8 @@ use Rattle.growth_laws.proofs.AddedOps.{lr_kind, atomic_lr, stored_kind, older, 
 use Rattle.growth_laws.proofs.AddedOps.{unperformed_of, extents_of, disjoint_of, parts_of, waits_of, amo_of, named_of}
 use Rattle.growth_laws.proofs.AddedOps.{kinds_of, cover_of, plain_of, paired_of, younger_of}
 use Rattle.rvwmo_model.specs.Order.{everything}
-use Rattle.rvwmo_model.specs.InsnKinds.{is_lr, has_stored}
+use Rattle.rv_decode.specs.Kinds.{is_lr}
+use Rattle.rvwmo_model.specs.InsnKinds.{has_stored}
 
 module _ (t t' : Trace) (r : Retired) (new : List Op) (k : WellKinded t) (s : AddInsn t t' r new) where
   abbrev Is : Op → Type 0

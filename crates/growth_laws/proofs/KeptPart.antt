@@ -9,12 +9,14 @@ use Rattle.rvwmo_model.specs.declared.instructions.Retired.{Retired}
 use Rattle.rvwmo_model.specs.declared.operations.Op.{Op}
 use Rattle.rvwmo_model.specs.declared.operations.OpKind.TheVariants as kind
 use Rattle.rvwmo_model.specs.declared.traces.Trace.{Trace}
-use Rattle.rvwmo_model.specs.Order.{covers, everything}
+use Rattle.tandem_base.specs.Extents.{Covers}
+use Rattle.rvwmo_model.specs.Order.{has_byte, everything}
 use Rattle.rvwmo_model.specs.ProgramOrder.{insn_at, insn_of, is_one}
 use Rattle.rvwmo_model.specs.Atomicity.{IsPair, IsWithin}
 use Rattle.rvwmo_model.specs.InForm.{IsOf, IsWhole, IsGranule, HasOne, InForm}
 use Rattle.rvwmo_model.proofs.LookUp.{named_self}
-use Rattle.growth_laws.specs.Kinds.{is_store, SameInsn, IsNamed, InExtent, IsPlainStore, IsPlainAnnotated, WellKinded}
+use Rattle.rv_decode.specs.Kinds.{is_store, is_lr, is_sc}
+use Rattle.growth_laws.specs.Kinds.{SameInsn, IsNamed, IsPlainStore, IsPlainAnnotated, WellKinded}
 use Rattle.growth_laws.specs.Growth.{IsPartOf, PerformsPart}
 use Rattle.growth_laws.proofs.Places.{not_both}
 use Rattle.growth_laws.proofs.Facts.{plain_kind, names_apart}
@@ -23,19 +25,19 @@ use Rattle.growth_laws.proofs.PlainStores.{store_lr, store_sc, plain_not}
 use Rattle.growth_laws.proofs.Lawful.{stored_sc, pair_on}
 use Rattle.growth_laws.proofs.Operations.{part_ops}
 use Rattle.growth_laws.proofs.Steps.{part_lift}
-use Rattle.rvwmo_model.specs.InsnKinds.{is_lr, is_sc, has_stored}
+use Rattle.rvwmo_model.specs.InsnKinds.{has_stored}
 use Rattle.rvwmo_model.specs.Annotations.{is_rcsc}
 
 -- names by lowest bytes tell operations of one instruction apart
 pub apart_by : (t : Trace) → ((o : Op) → Contains t.ops o → IsNamed o)
     → ((a b : Op) → Contains t.ops a → Contains t.ops b → SameInsn a b → a.extent ≡ b.extent)
-    → ((a b : Op) (x : ℕ) → Contains t.ops a → Contains t.ops b → SameInsn a b → covers x a ≡ true → covers x b ≡ true
-    → a ≡ b) → (a b : Op) → Contains t.ops a → Contains t.ops b → a.name ≡ b.name → a ≡ b
+    → ((a b : Op) (x : ℕ) → Contains t.ops a → Contains t.ops b → SameInsn a b → has_byte x a ≡ true
+    → has_byte x b ≡ true → a ≡ b) → (a b : Op) → Contains t.ops a → Contains t.ops b → a.name ≡ b.name → a ≡ b
 apart_by t named extents disjoint a b ha hb e =
     let s : SameInsn a b = (ap (λ (n : OpName). n.hart) e, ap (λ (n : OpName). n.tag) e) in
     let x : a.extent.addr + a.name.part ≡ b.extent.addr + b.name.part = rw (extents a b ha hb s, e) refl in
     disjoint a b (a.extent.addr + a.name.part) ha hb s (named a ha).here
-    (subst (λ (n : ℕ). covers n b ≡ true) (sym x) (named b hb).here)
+    (subst (λ (n : ℕ). has_byte n b ≡ true) (sym x) (named b hb).here)
 
 -- the instruction of a plain store is neither an LR nor an SC
 pub plain_not_single : (t : Trace) (o : Op) → IsPlainStore t o
@@ -91,7 +93,7 @@ module _ (t t' : Trace) (o n : Op) (rest : Option Op) (k : WellKinded t) (s : Pe
   root_plain a (inl r) p = ((of_o a r).acquire ∙ p.0, ap is_rcsc (of_o a r).release ∙ p.1)
   root_plain a (inr i) p = p
 
-  root_covers : (a : Op) (r : Is a) (x : ℕ) → covers x a ≡ true → covers x (root a r) ≡ true
+  root_covers : (a : Op) (r : Is a) (x : ℕ) → has_byte x a ≡ true → has_byte x (root a r) ≡ true
   root_covers a (inl r) x c = ((of_o a r).bytes x c).0
   root_covers a (inr i) x c = c
 
@@ -109,14 +111,14 @@ module _ (t t' : Trace) (o n : Op) (rest : Option Op) (k : WellKinded t) (s : Pe
   plain_root a r p = ap (is_one is_store) (sym (root_insn a r)) ∙ p
 
   -- two parts with a common byte are one
-  parts_one : (a b : Op) (x : ℕ) → (a ≡ n) ⊎ (rest ≡ Some a) → (b ≡ n) ⊎ (rest ≡ Some b) → covers x a ≡ true
-      → covers x b ≡ true → a ≡ b
+  parts_one : (a b : Op) (x : ℕ) → (a ≡ n) ⊎ (rest ≡ Some a) → (b ≡ n) ⊎ (rest ≡ Some b) → has_byte x a ≡ true
+      → has_byte x b ≡ true → a ≡ b
   parts_one a b x (inl e) (inl f) c d = e ∙ sym f
-  parts_one a b x (inl e) (inr f) c d = absurd (s.disjoint b x f (subst (λ (z : Op). covers x z ≡ true) e c) d)
-  parts_one a b x (inr e) (inl f) c d = absurd (s.disjoint a x e (subst (λ (z : Op). covers x z ≡ true) f d) c)
+  parts_one a b x (inl e) (inr f) c d = absurd (s.disjoint b x f (subst (λ (z : Op). has_byte x z ≡ true) e c) d)
+  parts_one a b x (inr e) (inl f) c d = absurd (s.disjoint a x e (subst (λ (z : Op). has_byte x z ≡ true) f d) c)
   parts_one a b x (inr e) (inr f) c d = let q : Some a ≡ Some b = sym e ∙ f in cc
 
-  one_of : (a b : Op) (x : ℕ) → Is a → Is b → SameInsn a b → covers x a ≡ true → covers x b ≡ true → a ≡ b
+  one_of : (a b : Op) (x : ℕ) → Is a → Is b → SameInsn a b → has_byte x a ≡ true → has_byte x b ≡ true → a ≡ b
   one_of a b x (inl p) (inl q) e c d = parts_one a b x p q c d
   one_of a b x (inl p) (inr i) e c d =
       absurd (i.1 (sym (k.disjoint o b x s.was i.0 (same_roots a b (inl p) (inr i) e) (root_covers a (inl p) x c) d)))
@@ -220,15 +222,15 @@ module _ (t t' : Trace) (o n : Op) (rest : Option Op) (k : WellKinded t) (s : Pe
   }
 
   -- a byte of the extent of a plain store is one of its operations'
-  covered : (a : Op) (x : ℕ) → Is a → IsPlainStore t' a → InExtent a x → (v : Op) × Contains t'.ops v × SameInsn v a
-      × (covers x v ≡ true)
+  covered : (a : Op) (x : ℕ) → Is a → IsPlainStore t' a → Covers a.extent x → (v : Op) × Contains t'.ops v
+      × SameInsn v a × (has_byte x v ≡ true)
   covered a x r p e =
       let f = root_same a r in
       let v = k.cover (root a r) x (root_in a r) (plain_root a r p) (rw (← root_extent a r) e) in
       elim (s.ops_on v.0 v.1) [
         | inr i ↦ (v.0, i, (v.2.0 ∙ sym f.0, v.2.1 ∙ sym f.1), v.3)
         | inl same ↦
-            let m = part_lift t t' o n rest s x (subst (λ (z : Op). covers x z ≡ true) same v.3) in (
+            let m = part_lift t t' o n rest s x (subst (λ (z : Op). has_byte x z ≡ true) same v.3) in (
               m.0,
               m.1,
               (

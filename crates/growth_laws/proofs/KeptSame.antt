@@ -12,7 +12,8 @@ use Rattle.rvwmo_model.specs.ProgramOrder.{insn_of, is_one}
 use Rattle.rvwmo_model.specs.InForm.{IsPlaced, IsWhole, IsGranule, HasOne, InForm}
 use Rattle.growth_laws.proofs.Facts.{names_apart}
 use Rattle.rvwmo_model.proofs.Totality.{one_name}
-use Rattle.growth_laws.specs.Kinds.{is_store, SameInsn, IsPlainStore, WellKinded}
+use Rattle.rv_decode.specs.Kinds.{is_store, is_lr}
+use Rattle.growth_laws.specs.Kinds.{SameInsn, IsPlainStore, WellKinded}
 use Rattle.growth_laws.specs.Growth.{SameMembers, Keeps, Same, AddEarly}
 use Rattle.growth_laws.proofs.Insns.{insns_back, one_place}
 use Rattle.growth_laws.proofs.Links.{OpsGo}
@@ -20,7 +21,7 @@ use Rattle.growth_laws.proofs.Lawful.{pair_on}
 use Rattle.growth_laws.proofs.Operations.{same_ops, early_ops}
 use Rattle.growth_laws.proofs.Steps.{grows}
 use Rattle.rvwmo_model.specs.Order.{everything}
-use Rattle.rvwmo_model.specs.InsnKinds.{is_lr, has_stored}
+use Rattle.rvwmo_model.specs.InsnKinds.{has_stored}
 
 -- what is asked of the early stores, and of all operations together
 pub record EarlyFit (t : Trace) : Type 0 where

@@ -3,7 +3,7 @@ use Rattle.std.proofs.Common.{ℕ, ◌<◌, ◌≡◌, ◌⊎◌, true}
 use Rattle.std.specs.List.{Contains}
 use Rattle.rvwmo_model.specs.declared.operations.Op.{Op}
 use Rattle.rvwmo_model.specs.declared.traces.Trace.{Trace}
-use Rattle.rvwmo_model.specs.Order.{covers}
+use Rattle.rvwmo_model.specs.Order.{has_byte}
 use Rattle.rvwmo_model.specs.ProgramOrder.{insn_at}
 use Rattle.rvwmo_model.specs.InForm.{IsPlaced}
 use Rattle.growth_laws.specs.Kinds.{WellKinded}
@@ -19,8 +19,8 @@ pub record IsLike (n o : Op) : Type 0 where
 -- operation stay
 pub record OpsGo (t t' : Trace) : Type 0 where
   pub stays : (v : Op) → Contains t.ops v → IsPlaced v → Contains t'.ops v
-  pub lift : (v : Op) (x : ℕ) → Contains t.ops v → covers x v ≡ true → (n : Op) × Contains t'.ops n
-      × (covers x n ≡ true) × Becomes t v n × IsLike n v
+  pub lift : (v : Op) (x : ℕ) → Contains t.ops v → has_byte x v ≡ true → (n : Op) × Contains t'.ops n
+      × (has_byte x n ≡ true) × Becomes t v n × IsLike n v
   pub insns : (v : Op) (k : ℕ) → Contains t.ops v → (k < v.name.tag) ⊎ (k ≡ v.name.tag)
       → insn_at t'.insns v.name.hart k ≡ insn_at t.insns v.name.hart k
   pub granule : t'.granule ≡ t.granule

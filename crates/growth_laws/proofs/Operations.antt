@@ -7,7 +7,7 @@ use Rattle.std.specs.List.{Contains}
 use Rattle.rvwmo_model.specs.declared.instructions.Retired.{Retired}
 use Rattle.rvwmo_model.specs.declared.operations.Op.{Op}
 use Rattle.rvwmo_model.specs.declared.traces.Trace.{Trace}
-use Rattle.rvwmo_model.specs.Order.{covers}
+use Rattle.rvwmo_model.specs.Order.{has_byte}
 use Rattle.rvwmo_model.specs.ProgramOrder.{insn_at}
 use Rattle.growth_laws.specs.Kinds.{WellKinded}
 use Rattle.growth_laws.specs.Growth.{Same, AddEarly, AddInsn, IsPartOf, PerformsPart}
@@ -77,7 +77,7 @@ part_ops t t' o n rest s = record {
       ];
   lift = λ v x h q. elim (s.ops_on v h) [
     | inl same ↦
-        let l = part_lift t t' o n rest s x (subst (λ (z : Op). covers x z ≡ true) same q) in (
+        let l = part_lift t t' o n rest s x (subst (λ (z : Op). has_byte x z ≡ true) same q) in (
           l.0,
           l.1,
           l.2,

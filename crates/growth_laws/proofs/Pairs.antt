@@ -1,5 +1,5 @@
 -- A pair that is broken leaves a broken pair behind, whatever the step.
-use Rattle.std.proofs.Common.{ℕ, ◌<◌, ◌≡◌, ◌⊎◌, inl, inr, Bool, true, false, Option, None, refl, sym, ap, subst, ◌∙◌}
+use Rattle.std.proofs.Common.{ℕ, ◌<◌, ◌≡◌, ◌⊎◌, inl, inr, true, Option, None, refl, sym, ap, subst, ◌∙◌}
 use Rattle.std.proofs.Common.{arith}
 use Rattle.std.proofs.lemmas.Bool.{both_ways, and_parts}
 use Rattle.std.specs.List.{Contains}
@@ -11,10 +11,10 @@ use Rattle.rvwmo_model.specs.declared.preserved.Rule.{Rule}
 use Rattle.rvwmo_model.specs.declared.preserved.Rule.TheVariants.{R1, R2, R3, R4, R5, R6, R7, R8, R9, R10, R11, R12}
 use Rattle.rvwmo_model.specs.declared.preserved.Rule.TheVariants.{R13}
 use Rattle.rvwmo_model.specs.declared.traces.Trace.{Trace}
-use Rattle.rvwmo_model.specs.Order.{standing, precedes, writes, reads, covers, stores, loads}
+use Rattle.rvwmo_model.specs.Order.{standing, precedes, reads, has_byte, stores, loads}
 use Rattle.rvwmo_model.specs.ProgramOrder.{insn_at, is_one}
 use Rattle.rvwmo_model.specs.Sources.{origin}
-use Rattle.rvwmo_model.specs.Rules.{SomeBetween, StoresTo, AddressOn, DataOn, Holds, Broken}
+use Rattle.rvwmo_model.specs.Rules.{SomeBetween, StoresTo, AddressOn, DataOn, Orders, Broken}
 use Rattle.rvwmo_model.specs.InForm.{IsPlaced}
 use Rattle.rvwmo_model.proofs.Orders.{before_asym}
 use Rattle.growth_laws.specs.Kinds.{WellKinded}
@@ -27,7 +27,8 @@ use Rattle.growth_laws.proofs.Links.{IsLike, OpsGo}
 use Rattle.growth_laws.proofs.PlainStores.{plain_first}
 use Rattle.growth_laws.proofs.SameInsns.{address_on, data_on, branch_on, paired_on}
 use Rattle.growth_laws.proofs.ReadOperations.{reads_still, reads_dependent_still}
-use Rattle.rvwmo_model.specs.InsnKinds.{is_amo_or_sc, fence_orders}
+use Rattle.rv_decode.specs.Kinds.{is_amo_or_sc}
+use Rattle.rvwmo_model.specs.InsnKinds.{fence_orders}
 
 -- b of a broken pair is performed
 pub second_placed : (t : Trace) (r : Rule) (a b : Op) → Broken r t a b → IsPlaced b
@@ -46,7 +47,7 @@ crossed_overlap t x c = record {
   second_in = c.second_in;
   one_hart = c.one_hart;
   in_order = c.in_order;
-  rule = (x, (and_parts (stores c.first) (covers x c.first) c.first_writes).1, c.second_writes);
+  rule = (x, (and_parts (stores c.first) (has_byte x c.first) c.first_writes).1, c.second_writes);
   against = c.against;
 }
 
@@ -58,7 +59,7 @@ module _ (t t' : Trace) (k : WellKinded t) (k' : WellKinded t') (go : (x : ℕ) 
   pub origin_on : (i : Op) (x : ℕ) → Contains t.ops i → reads x i ≡ true → (origin t' i x ≡ origin t i x)
       ⊎ HasOverlap t'
   origin_on i x h q =
-      let p = load_placed t i k h (and_parts (loads i) (covers x i) q).0 in
+      let p = load_placed t i k h (and_parts (loads i) (has_byte x i) q).0 in
       elim (origin_stays t t' x i k k' (go x) h (g.stays i h p) p) [
         | inl e ↦ inl e
         | inr c ↦ inr (has_overlap t' x c.crossed)
@@ -97,14 +98,14 @@ module _ (t t' : Trace) (k : WellKinded t) (k' : WellKinded t') (go : (x : ℕ) 
 
   -- a rule between old operations holds on, or a source changed
   pub holds_on : (r : Rule) (a b : Op) → Contains t.ops a → Contains t.ops b → b.name.hart ≡ a.name.hart
-      → a.name.tag < b.name.tag → Holds r t a b → Holds r t' a b ⊎ HasOverlap t'
+      → a.name.tag < b.name.tag → Orders r t a b → Orders r t' a b ⊎ HasOverlap t'
   holds_on r a b ha hb one lt = at r
     where
       same : (n : ℕ) → (n < b.name.tag) ⊎ (n ≡ b.name.tag) → insn_at t'.insns a.name.hart n ≡ insn_at t.insns
           a.name.hart n
       same = insns_to a b hb one
 
-      at : (r : Rule) → Holds r t a b → Holds r t' a b ⊎ HasOverlap t'
+      at : (r : Rule) → Orders r t a b → Orders r t' a b ⊎ HasOverlap t'
       at R1 h = inl h
       at R2 h = elim (origin_on a h.0 ha h.1) [
         | inr c ↦ inr c
@@ -159,20 +160,20 @@ module _ (t t' : Trace) (k : WellKinded t) (k' : WellKinded t') (go : (x : ℕ) 
 
   -- a store that isn't performed is first by rule 1, 4 or 6, and what it becomes is too
   pub plain_on : (r : Rule) (a b : Op) → Contains t.ops a → Contains t.ops b → a.place ≡ None
-      → b.name.hart ≡ a.name.hart → Holds r t a b → (n : Op) × Contains t'.ops n × Becomes t a n × Holds r t' n b
+      → b.name.hart ≡ a.name.hart → Orders r t a b → (n : Op) × Contains t'.ops n × Becomes t a n × Orders r t' n b
   plain_on r a b ha hb e one h = at r (plain_first t r a b k ha (k.unperformed a ha e) h) h
     where
       same : (n : ℕ) → (n < b.name.tag) ⊎ (n ≡ b.name.tag) → insn_at t'.insns a.name.hart n ≡ insn_at t.insns
           a.name.hart n
       same = insns_to a b hb one
 
-      any : (n : Op) × Contains t'.ops n × (covers (some_byte_of t a k ha).0 n ≡ true) × Becomes t a n × IsLike n a
+      any : (n : Op) × Contains t'.ops n × (has_byte (some_byte_of t a k ha).0 n ≡ true) × Becomes t a n × IsLike n a
       any = g.lift a (some_byte_of t a k ha).0 ha (some_byte_of t a k ha).1
 
-      first : (h : Holds R1 t a b) → (n : Op) × Contains t'.ops n × Becomes t a n × Holds R1 t' n b
+      first : (h : Orders R1 t a b) → (n : Op) × Contains t'.ops n × Becomes t a n × Orders R1 t' n b
       first h = let l = g.lift a h.0 ha h.1 in (l.0, l.1, l.3, (h.0, l.2, h.2))
 
-      fenced : (h : Holds R4 t a b) → (n : Op) × Contains t'.ops n × Becomes t a n × Holds R4 t' n b
+      fenced : (h : Orders R4 t a b) → (n : Op) × Contains t'.ops n × Becomes t a n × Orders R4 t' n b
       fenced h =
           let n = any in (
             n.0,
@@ -187,14 +188,14 @@ module _ (t t' : Trace) (k : WellKinded t) (k' : WellKinded t') (go : (x : ℕ) 
             ),
           )
 
-      at : (r : Rule) → (r ≡ R1) ⊎ (r ≡ R4) ⊎ (r ≡ R6) → Holds r t a b → (n : Op) × Contains t'.ops n × Becomes t a n
-          × Holds r t' n b
-      at r (inl q) h = subst (λ (z : Rule). (n : Op) × Contains t'.ops n × Becomes t a n × Holds z t' n b) (sym q)
-          (first (subst (λ (z : Rule). Holds z t a b) q h))
-      at r (inr (inl q)) h = subst (λ (z : Rule). (n : Op) × Contains t'.ops n × Becomes t a n × Holds z t' n b)
-          (sym q) (fenced (subst (λ (z : Rule). Holds z t a b) q h))
-      at r (inr (inr q)) h = subst (λ (z : Rule). (n : Op) × Contains t'.ops n × Becomes t a n × Holds z t' n b)
-          (sym q) (any.0, any.1, any.3, subst (λ (z : Rule). Holds z t a b) q h)
+      at : (r : Rule) → (r ≡ R1) ⊎ (r ≡ R4) ⊎ (r ≡ R6) → Orders r t a b → (n : Op) × Contains t'.ops n × Becomes t a n
+          × Orders r t' n b
+      at r (inl q) h = subst (λ (z : Rule). (n : Op) × Contains t'.ops n × Becomes t a n × Orders z t' n b) (sym q)
+          (first (subst (λ (z : Rule). Orders z t a b) q h))
+      at r (inr (inl q)) h = subst (λ (z : Rule). (n : Op) × Contains t'.ops n × Becomes t a n × Orders z t' n b)
+          (sym q) (fenced (subst (λ (z : Rule). Orders z t a b) q h))
+      at r (inr (inr q)) h = subst (λ (z : Rule). (n : Op) × Contains t'.ops n × Becomes t a n × Orders z t' n b)
+          (sym q) (any.0, any.1, any.3, subst (λ (z : Rule). Orders z t a b) q h)
 
   -- a broken pair leaves one of the same second operation and the same rule, or one of rule 1
   pub broken_goes : (r : Rule) (a b : Op) → Broken r t a b → ((n : Op) × Broken r t' n b) ⊎ HasOverlap t'

@@ -4,7 +4,7 @@ use Rattle.std.specs.List.{Contains}
 use Rattle.std.proofs.lemmas.List.Elements.{Contains-append_cases, Contains-append_left, Contains-append_right}
 use Rattle.rvwmo_model.specs.declared.operations.Op.{Op}
 use Rattle.rvwmo_model.specs.declared.traces.Trace.{Trace}
-use Rattle.rvwmo_model.specs.Order.{covers, everything}
+use Rattle.rvwmo_model.specs.Order.{has_byte, everything}
 use Rattle.rvwmo_model.specs.ProgramOrder.{insn_at}
 use Rattle.rvwmo_model.specs.InForm.{IsPlaced}
 use Rattle.rvwmo_model.proofs.Membership.{nothing_in, head_in, tail_in, in_cases}
@@ -19,7 +19,7 @@ pub record IsOfWaiting (t : Trace) (v o : Op) : Type 0 where
   pub unperformed : o.place ≡ None
   pub same : SameInsn v o
   pub like : IsLike v o
-  pub bytes : (x : ℕ) → covers x v ≡ true → covers x o ≡ true
+  pub bytes : (x : ℕ) → has_byte x v ≡ true → has_byte x o ≡ true
 
 -- where an operation comes from: it was there and performed, or is performed now, or is still to be performed
 pub data Stems (t : Trace) (parts : List Op) (v : Op) : Type 0 where

@@ -12,16 +12,16 @@ use Rattle.rvwmo_model.specs.declared.preserved.Rule.{Rule}
 use Rattle.rvwmo_model.specs.declared.preserved.Rule.TheVariants.{R1, R2, R3, R4, R5, R6, R7, R8, R9, R10, R11, R12}
 use Rattle.rvwmo_model.specs.declared.preserved.Rule.TheVariants.{R13}
 use Rattle.rvwmo_model.specs.declared.traces.Trace.{Trace}
-use Rattle.rvwmo_model.specs.Order.{reads, covers, loads, kind_loads}
+use Rattle.rvwmo_model.specs.Order.{reads, has_byte, loads, kind_loads}
 use Rattle.rvwmo_model.specs.ProgramOrder.{insn_of, is_one}
 use Rattle.rvwmo_model.specs.Dependencies.{Flow, Dep, direct, along}
 use Rattle.rvwmo_model.specs.Flows.{flow_of, Depends}
-use Rattle.rvwmo_model.specs.Rules.{Holds}
-use Rattle.growth_laws.specs.Kinds.{is_store, IsPlainStore, WellKinded}
+use Rattle.rvwmo_model.specs.Rules.{Orders}
+use Rattle.rv_decode.specs.Kinds.{is_store, is_amo_or_sc, is_lr, is_sc}
+use Rattle.growth_laws.specs.Kinds.{IsPlainStore, WellKinded}
 use Rattle.growth_laws.proofs.Facts.{plain_kind}
 use Rattle.rvwmo_model.proofs.Tested.{one_some}
 use Rattle.rv_decode.specs.Registers.{sets}
-use Rattle.rvwmo_model.specs.InsnKinds.{is_amo_or_sc, is_lr, is_sc}
 use Rattle.rvwmo_model.specs.Annotations.{is_annotated, is_rcsc}
 
 -- it starts at a destination
@@ -62,13 +62,13 @@ no_start t a j r p d =
 
 -- where a is of a plain store, the rule is 1, 4 or 6
 pub plain_first : (t : Trace) (k : Rule) (a b : Op) → WellKinded t → Contains t.ops a → IsPlainStore t a
-    → Holds k t a b → (k ≡ R1) ⊎ (k ≡ R4) ⊎ (k ≡ R6)
+    → Orders k t a b → (k ≡ R1) ⊎ (k ≡ R4) ⊎ (k ≡ R6)
 plain_first t k a b w ha p = at k
   where
     not_loads : (x : ℕ) → reads x a ≡ true → ⊥
-    not_loads x h = both_ways _ (ap kind_loads (plain_kind t a w ha p)) (and_parts (loads a) (covers x a) h).0
+    not_loads x h = both_ways _ (ap kind_loads (plain_kind t a w ha p)) (and_parts (loads a) (has_byte x a) h).0
 
-    at : (k : Rule) → Holds k t a b → (k ≡ R1) ⊎ (k ≡ R4) ⊎ (k ≡ R6)
+    at : (k : Rule) → Orders k t a b → (k ≡ R1) ⊎ (k ≡ R4) ⊎ (k ≡ R6)
     at R1 h = inl refl
     at R2 h = absurd (not_loads h.0 h.1)
     at R3 h = absurd (plain_not is_amo_or_sc t a store_amo_or_sc p h.0)

@@ -5,7 +5,7 @@ use Rattle.std.specs.List.{Contains}
 use Rattle.rvwmo_model.specs.declared.instructions.Retired.{Retired}
 use Rattle.rvwmo_model.specs.declared.operations.Op.{Op}
 use Rattle.rvwmo_model.specs.declared.traces.Trace.{Trace}
-use Rattle.rvwmo_model.specs.Order.{loads, covers, reads}
+use Rattle.rvwmo_model.specs.Order.{loads, has_byte, reads}
 use Rattle.rvwmo_model.specs.Sources.{source}
 use Rattle.rvwmo_model.specs.InForm.{IsPlaced, IsOf}
 use Rattle.rvwmo_model.specs.Legal.{Legal}
@@ -59,7 +59,7 @@ quiet : (initial : ℕ → ℕ) (t t' : Trace) (r : Retired) (new : List Op) →
     → AddInsn t t' r new → ((v : Op) → Contains new v → v.place ≡ None) → Legal initial t'
 quiet initial t t' r new k legal s waits = record {
   ordered = λ j a b p. not_own b p.second_in (second_placed t' j a b p) (only.pairs j a b p);
-  valued = λ i x v. not_own i v.load_in (load_placed t' i k' v.load_in (and_parts (loads i) (covers x i) v.loads).0)
+  valued = λ i x v. not_own i v.load_in (load_placed t' i k' v.load_in (and_parts (loads i) (has_byte x i) v.loads).0)
       (only.values i x v);
   paired = λ w u. let z = k'.paired w u.sc_in u.stored in u.alone z.0 z.1 z.2;
   atomic = λ i w p. not_own w p.pair.sc_in (sc_placed t' w k' p.pair.sc_in p.pair.stored) (only.atomicity i w p);

@@ -1,5 +1,5 @@
 -- A growth of a legal trace is legal exactly where what it adds is right.
-use Rattle.std.proofs.Common.{ℕ, zero, suc, ◌<◌, ◌≡◌, ◌⊎◌, inl, inr, List, arith}
+use Rattle.std.proofs.Common.{ℕ, zero, suc, ◌<◌, inl, inr, List, arith}
 use Rattle.rvwmo_model.specs.declared.instructions.Retired.{Retired}
 use Rattle.rvwmo_model.specs.declared.operations.Op.{Op}
 use Rattle.rvwmo_model.specs.declared.preserved.Rule.{Rule}
@@ -8,9 +8,9 @@ use Rattle.rvwmo_model.specs.Rules.{Broken}
 use Rattle.rvwmo_model.specs.Legal.{Legal}
 use Rattle.rvwmo_model.specs.Report.{number}
 use Rattle.growth_laws.specs.Kinds.{WellKinded}
-use Rattle.growth_laws.specs.Growth.{AddInsn, Performs, Growth, grow_same, grow_early, grow_insn, grow_stores}
+use Rattle.growth_laws.specs.Growth.{grow_same, grow_early, grow_insn, grow_stores}
 use Rattle.growth_laws.specs.Laws.{WrongOnlyBy, WrongByStores}
-use Rattle.growth_laws.specs.Corollaries.{IsRight, AreInOrder, GrowsRight, LegalWhereRight}
+use Rattle.growth_laws.specs.Corollaries.{IsRight, AreInOrder, LegalWhereRight}
 use Rattle.growth_laws.proofs.FaultSteps.{early_breaks_nothing, insn_breaks_its_own}
 use Rattle.growth_laws.proofs.FaultStores.{stores_break_pairs}
 use Rattle.growth_laws.proofs.Growths.{keeps_kinded}

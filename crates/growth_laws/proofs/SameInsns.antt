@@ -9,7 +9,7 @@ use Rattle.rvwmo_model.specs.Dependencies.{Flow, Dep, direct, along}
 use Rattle.rvwmo_model.specs.Flows.{flow_of, flows, DependsBy, AddressDep, DataDep, BranchDep}
 use Rattle.rvwmo_model.specs.Rules.{Paired}
 use Rattle.rv_decode.specs.Registers.{is_control}
-use Rattle.rvwmo_model.specs.InsnKinds.{is_lr, is_sc}
+use Rattle.rv_decode.specs.Kinds.{is_lr, is_sc}
 
 -- a dependency reads no later instruction
 dep_local : (c d : ℕ → Flow) (j : ℕ) (r : Register) (i : ℕ) (s : Register) → ((k : ℕ) → k < j → d k ≡ c k)

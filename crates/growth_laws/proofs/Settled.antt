@@ -4,7 +4,7 @@ use Rattle.std.proofs.lemmas.Bool.{and_parts}
 use Rattle.std.specs.List.{Contains}
 use Rattle.rvwmo_model.specs.declared.operations.Op.{Op}
 use Rattle.rvwmo_model.specs.declared.traces.Trace.{Trace}
-use Rattle.rvwmo_model.specs.Order.{loads, covers}
+use Rattle.rvwmo_model.specs.Order.{loads, has_byte}
 use Rattle.rvwmo_model.specs.Sources.{source}
 use Rattle.rvwmo_model.specs.InForm.{IsPlaced}
 use Rattle.growth_laws.specs.Writers.{SameSource}
@@ -62,4 +62,4 @@ chain_settled _ _ i x (then t u v c g) h p d =
 
 pub settled_sources : SettledSources
 settled_sources t t' i x k g h q d =
-    (chain_settled t t' i x (grows_chain t t' k g) h (load_placed t i k h (and_parts (loads i) (covers x i) q).0) d).0
+    (chain_settled t t' i x (grows_chain t t' k g) h (load_placed t i k h (and_parts (loads i) (has_byte x i) q).0) d).0

@@ -7,9 +7,9 @@ use Rattle.rvwmo_model.specs.declared.operations.Op.{Op}
 use Rattle.rvwmo_model.specs.declared.preserved.Rule.{Rule}
 use Rattle.rvwmo_model.specs.declared.preserved.Rule.TheVariants.{R1, R9, R10}
 use Rattle.rvwmo_model.specs.declared.traces.Trace.{Trace}
-use Rattle.rvwmo_model.specs.Order.{standing, precedes, covers, loads}
+use Rattle.rvwmo_model.specs.Order.{standing, precedes, has_byte, loads}
 use Rattle.rvwmo_model.specs.ProgramOrder.{insn_at}
-use Rattle.rvwmo_model.specs.Rules.{Holds}
+use Rattle.rvwmo_model.specs.Rules.{Orders}
 use Rattle.rvwmo_model.specs.InForm.{IsPlaced}
 use Rattle.rvwmo_model.specs.Legal.{Legal}
 use Rattle.rvwmo_model.proofs.Orders.{before_asym, before_trans}
@@ -56,26 +56,26 @@ module _ (initial : ℕ → ℕ) (t t' : Trace) (a : Op) (k : WellKinded t) (leg
 
   -- rules 1, 9 and 10 held before, of what had the bytes of c
   held : (r : Rule) (c o : Op) → (r ≡ R1) ⊎ (r ≡ R9) ⊎ (r ≡ R10) → a.name.hart ≡ c.name.hart → SameInsn c o
-      → ((x : ℕ) → covers x c ≡ true → covers x o ≡ true) → Holds r t' c a → Holds r t o a
+      → ((x : ℕ) → has_byte x c ≡ true → has_byte x o ≡ true) → Orders r t' c a → Orders r t o a
   held r c o rule one same bytes = at rule
     where
       still : (n : ℕ) → (n < a.name.tag) ⊎ (n ≡ a.name.tag) → insn_at t.insns o.name.hart n ≡ insn_at t'.insns
           o.name.hart n
       still n le = subst (λ (h : ℕ). insn_at t.insns h n ≡ insn_at t'.insns h n) (one ∙ same.0) (insns n le)
 
-      at : (r ≡ R1) ⊎ (r ≡ R9) ⊎ (r ≡ R10) → Holds r t' c a → Holds r t o a
-      at (inl q) = subst (λ (z : Rule). Holds z t' c a → Holds z t o a) (sym q) (λ e. (e.0, bytes e.0 e.1, e.2))
-      at (inr (inl q)) = subst (λ (z : Rule). Holds z t' c a → Holds z t o a) (sym q)
+      at : (r ≡ R1) ⊎ (r ≡ R9) ⊎ (r ≡ R10) → Orders r t' c a → Orders r t o a
+      at (inl q) = subst (λ (z : Rule). Orders z t' c a → Orders z t o a) (sym q) (λ e. (e.0, bytes e.0 e.1, e.2))
+      at (inr (inl q)) = subst (λ (z : Rule). Orders z t' c a → Orders z t o a) (sym q)
           (λ e. address_on t' t o.name.hart a.name.tag still a.name.tag o.name.tag (inr refl)
           (rw (← same.0, ← same.1) e))
-      at (inr (inr q)) = subst (λ (z : Rule). Holds z t' c a → Holds z t o a) (sym q)
+      at (inr (inr q)) = subst (λ (z : Rule). Orders z t' c a → Orders z t o a) (sym q)
           (λ e. data_on t' t o.name.hart a.name.tag still a.name.tag o.name.tag (inr refl) (rw (← same.0, ← same.1) e))
 
   -- what they put before a precedes a
   forced : (r : Rule) (c : Op) → (r ≡ R1) ⊎ (r ≡ R9) ⊎ (r ≡ R10) → IsPreserved r t' c a → precedes c a ≡ true
   forced r c rule p = at (grows_back t t' k g c p.first_in)
     where
-      unbroken : (o : Op) → Contains t.ops o → SameInsn c o → ((x : ℕ) → covers x c ≡ true → covers x o ≡ true)
+      unbroken : (o : Op) → Contains t.ops o → SameInsn c o → ((x : ℕ) → has_byte x c ≡ true → has_byte x o ≡ true)
           → precedes a o ≡ true → ⊥
       unbroken o i same bytes q = legal.ordered r o a (record {
         first_in = i;
@@ -112,7 +112,7 @@ module _ (initial : ℕ → ℕ) (t t' : Trace) (a : Op) (k : WellKinded t) (leg
           second_in = chain_stays t t' a chain below.in_ops pa;
           one_hart = one;
           in_order = lt;
-          rule = (x, (and_parts (loads c) (covers x c) q).1, w);
+          rule = (x, (and_parts (loads c) (has_byte x c) q).1, w);
         })).1;
     dependent = λ r j c rule p q. both_ways _ (before_asym (standing c) (standing b) (both r c (inr rule) p).1)
         q.against;

@@ -8,12 +8,13 @@ use Rattle.rvwmo_model.specs.declared.instructions.Retired.{Retired}
 use Rattle.rvwmo_model.specs.declared.operations.Op.{Op}
 use Rattle.rvwmo_model.specs.declared.operations.OpKind.TheVariants as kind
 use Rattle.rvwmo_model.specs.declared.traces.Trace.{Trace}
-use Rattle.rvwmo_model.specs.Order.{covers, precedes, put_at, everything}
+use Rattle.tandem_base.specs.Extents.{Covers}
+use Rattle.rvwmo_model.specs.Order.{has_byte, precedes, put_at, everything}
 use Rattle.rvwmo_model.specs.ProgramOrder.{insn_at}
 use Rattle.rvwmo_model.specs.Atomicity.{IsPair, IsWithin}
 use Rattle.rvwmo_model.specs.InForm.{AreRising, IsPlaced, IsOf, IsWhole}
-use Rattle.growth_laws.specs.Kinds.{is_store, kind_of, SameInsn, IsNamed, InExtent, IsPlainAnnotated}
-use Rattle.rvwmo_model.specs.InsnKinds.{is_lr, is_sc, is_amo_or_sc}
+use Rattle.rv_decode.specs.Kinds.{is_store, is_lr, is_sc, is_amo_or_sc}
+use Rattle.growth_laws.specs.Kinds.{kind_of, SameInsn, IsNamed, IsPlainAnnotated}
 
 -- two lists have the same members
 pub record SameMembers (xs ys : List Op) : Type 0 where
@@ -76,7 +77,8 @@ pub record AreOf (r : Retired) (new : List Op) : Type 0 where
   pub whole : (v : Op) → Contains new v → IsWhole v
   pub parts : (v : Op) → Contains new v → IsNamed v
   pub extents : (a b : Op) → Contains new a → Contains new b → a.extent ≡ b.extent
-  pub disjoint : (a b : Op) (x : ℕ) → Contains new a → Contains new b → covers x a ≡ true → covers x b ≡ true → a ≡ b
+  pub disjoint : (a b : Op) (x : ℕ) → Contains new a → Contains new b → has_byte x a ≡ true → has_byte x b ≡ true
+      → a ≡ b
 
 -- a load or LR: each operation has a place that no other has; an LR has one operation, aligned where a reservation is
 -- of a block
@@ -94,7 +96,7 @@ pub record AddsStore (t t' : Trace) (r : Retired) (new : List Op) (o : Op) : Typ
   pub early : SameMembers t.early t'.early
   pub one : new ≡ o ∷ []
   pub unperformed : o.place ≡ None
-  pub all : (x : ℕ) → InExtent o x → covers x o ≡ true
+  pub all : (x : ℕ) → Covers o.extent x → has_byte x o ≡ true
   pub plain : IsPlainAnnotated o
 
 -- an AMO or a successful SC: one operation, that of the early store e, which is early no more; an SC has a pair whose
@@ -110,7 +112,7 @@ pub record AddsAtomic (t t' : Trace) (r : Retired) (new : List Op) (e o : Op) : 
   pub place : o.place ≡ e.place
   pub extent : o.extent ≡ e.extent
   pub mask : o.mask ≡ e.mask
-  pub put : (x : ℕ) → covers x o ≡ true → put_at o x ≡ put_at e x
+  pub put : (x : ℕ) → has_byte x o ≡ true → put_at o x ≡ put_at e x
   pub pair : is_sc r.insn ≡ true → (l : Op) × IsPair t' l o × IsWithin o l
 
 -- every other instruction, and a failed SC: no operation
@@ -147,7 +149,7 @@ pub record IsPartOf (n o : Op) : Type 0 where
   pub extent : n.extent ≡ o.extent
   pub acquire : n.acquire ≡ o.acquire
   pub release : n.release ≡ o.release
-  pub bytes : (x : ℕ) → covers x n ≡ true → (covers x o ≡ true) × (put_at n x ≡ put_at o x)
+  pub bytes : (x : ℕ) → has_byte x n ≡ true → (has_byte x o ≡ true) × (put_at n x ≡ put_at o x)
   pub whole : IsWhole n
   pub named : IsNamed n
 
@@ -167,8 +169,8 @@ pub record PerformsPart (t t' : Trace) (o n : Op) (rest : Option Op) : Type 0 wh
   pub part : IsPartOf n o
   -- what is left is not performed
   pub left : (m : Op) → rest ≡ Some m → Contains t'.ops m × (m.place ≡ None) × IsPartOf m o
-  pub all : (x : ℕ) → covers x o ≡ true → (covers x n ≡ true) ⊎ ((m : Op) × (rest ≡ Some m) × (covers x m ≡ true))
-  pub disjoint : (m : Op) (x : ℕ) → rest ≡ Some m → covers x n ≡ true → covers x m ≡ true → ⊥
+  pub all : (x : ℕ) → has_byte x o ≡ true → (has_byte x n ≡ true) ⊎ ((m : Op) × (rest ≡ Some m) × (has_byte x m ≡ true))
+  pub disjoint : (m : Op) (x : ℕ) → rest ≡ Some m → has_byte x n ≡ true → has_byte x m ≡ true → ⊥
 
 -- one message of hart h performs these operations, one after the other; the last stands first in the list
 pub data Performs (h : ℕ) (t : Trace) : List Op → Trace → Type 0 where

@@ -4,23 +4,20 @@ use Rattle.std.specs.declared.option.Option.{Option}
 use Rattle.std.specs.List.{Contains}
 use Rattle.rv_decode.specs.declared.instruction.Insn.{Insn}
 use Rattle.rv_decode.specs.declared.instruction.Insn.TheVariants.{Load, Store, Lr, Sc, Amo}
+use Rattle.rv_decode.specs.Kinds.{is_store}
+use Rattle.tandem_base.specs.Extents.{Covers}
 use Rattle.rvwmo_model.specs.declared.instructions.Retired.{Retired}
 use Rattle.rvwmo_model.specs.declared.operations.Op.{Op}
 use Rattle.rvwmo_model.specs.declared.operations.OpKind.{OpKind}
 use Rattle.rvwmo_model.specs.declared.operations.OpKind.TheVariants as kind
 use Rattle.rvwmo_model.specs.declared.operations.Ann.TheVariants as ann
 use Rattle.rvwmo_model.specs.declared.traces.Trace.{Trace}
-use Rattle.rvwmo_model.specs.Order.{covers}
+use Rattle.rvwmo_model.specs.Order.{has_byte}
 use Rattle.rvwmo_model.specs.ProgramOrder.{insn_of, is_one}
 use Rattle.rvwmo_model.specs.Atomicity.{IsPair, IsWithin}
 use Rattle.rvwmo_model.specs.InForm.{InForm}
 use Rattle.rvwmo_model.specs.Annotations.{is_rcsc}
 use Rattle.rvwmo_model.specs.InsnKinds.{has_stored}
-
--- a plain store: neither an SC nor an AMO
-abbrev pub is_store : Insn → Bool
-is_store (Store op rs1 rs2 imm) = true
-is_store _ = false
 
 -- the kind of the operations of an instruction; a failed SC, and what doesn't access memory, has none
 abbrev pub kind_of_insn : Insn → Bool → Option OpKind
@@ -45,12 +42,8 @@ SameInsn a b = (a.name.hart ≡ b.name.hart) × (a.name.tag ≡ b.name.tag)
 
 -- the part in the name of an operation is its lowest byte
 pub record IsNamed (o : Op) : Type 0 where
-  pub here : covers (o.extent.addr + o.name.part) o ≡ true
-  pub lowest : (x : ℕ) → covers x o ≡ true → o.extent.addr + o.name.part ≤ x
-
--- byte x lies in the extent of o
-abbrev pub InExtent : Op → ℕ → Type 0
-InExtent o x = (o.extent.addr ≤ x) × (x < o.extent.addr + o.extent.len)
+  pub here : has_byte (o.extent.addr + o.name.part) o ≡ true
+  pub lowest : (x : ℕ) → has_byte x o ≡ true → o.extent.addr + o.name.part ≤ x
 
 -- a plain store has no acquire annotation, and no RCsc annotation as a release
 abbrev pub IsPlainAnnotated : Op → Type 0
@@ -68,12 +61,12 @@ pub record WellKinded (t : Trace) : Type 0 where
   pub unperformed : (o : Op) → Contains t.ops o → o.place ≡ None → IsPlainStore t o
   -- the operations of one instruction have one extent and no common byte, and each is named by its lowest byte
   pub extents : (a b : Op) → Contains t.ops a → Contains t.ops b → SameInsn a b → a.extent ≡ b.extent
-  pub disjoint : (a b : Op) (x : ℕ) → Contains t.ops a → Contains t.ops b → SameInsn a b → covers x a ≡ true
-      → covers x b ≡ true → a ≡ b
+  pub disjoint : (a b : Op) (x : ℕ) → Contains t.ops a → Contains t.ops b → SameInsn a b → has_byte x a ≡ true
+      → has_byte x b ≡ true → a ≡ b
   pub parts : (o : Op) → Contains t.ops o → IsNamed o
   -- those of a plain store cover its extent
-  pub cover : (o : Op) (x : ℕ) → Contains t.ops o → IsPlainStore t o → InExtent o x → (v : Op) × Contains t.ops v
-      × SameInsn v o × (covers x v ≡ true)
+  pub cover : (o : Op) (x : ℕ) → Contains t.ops o → IsPlainStore t o → Covers o.extent x → (v : Op) × Contains t.ops v
+      × SameInsn v o × (has_byte x v ≡ true)
   pub plain : (o : Op) → Contains t.ops o → IsPlainStore t o → IsPlainAnnotated o
   -- early stores of one hart have different tags, above those of all its instructions that retired
   pub early_apart : (a b : Op) → Contains t.early a → Contains t.early b → SameInsn a b → a ≡ b

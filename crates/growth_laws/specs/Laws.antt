@@ -10,7 +10,7 @@ use Rattle.rvwmo_model.specs.Order.{precedes, reads, writes}
 use Rattle.rvwmo_model.specs.Sources.{source, byte_from, origin}
 use Rattle.rvwmo_model.specs.declared.preserved.Rule.{Rule}
 use Rattle.rvwmo_model.specs.declared.preserved.Rule.TheVariants.{R1, R4, R6, R9, R10}
-use Rattle.rvwmo_model.specs.Rules.{Holds, Broken}
+use Rattle.rvwmo_model.specs.Rules.{Orders, Broken}
 use Rattle.rvwmo_model.specs.Atomicity.{Torn}
 use Rattle.rvwmo_model.specs.InForm.{IsPlaced, IsOf, IsGranule}
 use Rattle.rvwmo_model.specs.Legal.{WrongValue, Legal}
@@ -140,7 +140,7 @@ pub record IsPreserved (k : Rule) (t : Trace) (a b : Op) : Type 0 where
   pub second_in : Contains t.ops b
   pub one_hart : b.name.hart ≡ a.name.hart
   pub in_order : a.name.tag < b.name.tag
-  pub rule : Holds k t a b
+  pub rule : Orders k t a b
 
 -- b is an operation of t' of the hart of a, of an instruction that retires after t
 pub record IsLater (t t' : Trace) (a b : Op) : Type 0 where

@@ -8,7 +8,7 @@ use Rattle.tandem_base.specs.declared.names.Place.{Place}
 use Rattle.rvwmo_model.specs.declared.operations.Op.{Op}
 use Rattle.rvwmo_model.specs.declared.operations.OpKind.TheVariants as kind
 use Rattle.rvwmo_model.specs.declared.preserved.Rule.TheVariants.{R1}
-use Rattle.rvwmo_model.specs.Order.{everything, stands_before, covers, precedes, put_at}
+use Rattle.rvwmo_model.specs.Order.{everything, stands_before, has_byte, precedes, put_at}
 use Rattle.rvwmo_model.specs.Sources.{origin}
 use Rattle.rvwmo_model.specs.Rules.{Broken}
 use Rattle.rvwmo_model.specs.InForm.{IsPlaced}
@@ -30,7 +30,7 @@ low_part = record {
   extent = refl;
   acquire = refl;
   release = refl;
-  bytes = λ x q. each_byte (λ y. covers y low ≡ true → (covers y second_store ≡ true)
+  bytes = λ x q. each_byte (λ y. has_byte y low ≡ true → (has_byte y second_store ≡ true)
       × (put_at low y ≡ put_at second_store y)) low refl (λ e. (refl, refl)) (λ e. (refl, refl))
       (λ e. absurd (false≢true e)) (λ e. absurd (false≢true e)) x q q;
   whole = whole_op kind.Store (name 0 2 0) word 3 0 2 (drained 3) refl (omega arith) (omega arith);
@@ -48,13 +48,13 @@ upper_part p = record {
   extent = refl;
   acquire = refl;
   release = refl;
-  bytes = λ x q. each_byte (λ y. covers y left ≡ true → (covers y second_store ≡ true)
+  bytes = λ x q. each_byte (λ y. has_byte y left ≡ true → (has_byte y second_store ≡ true)
       × (put_at left y ≡ put_at second_store y)) left refl (λ e. absurd (false≢true e)) (λ e. absurd (false≢true e))
       (λ e. (refl, refl)) (λ e. (refl, refl)) x q q;
   whole = whole_op kind.Store (name 0 2 2) word 12 0 0 p refl (omega arith) (omega arith);
   named = record {
     here = refl;
-    lowest = λ x q. each_byte (λ y. covers y left ≡ true → 4098 + 2 ≤ y) left refl
+    lowest = λ x q. each_byte (λ y. has_byte y left ≡ true → 4098 + 2 ≤ y) left refl
         (λ e. absurd (false≢true e)) (λ e. absurd (false≢true e)) (λ e. omega arith) (λ e. omega arith) x q q;
   };
 }
@@ -166,11 +166,11 @@ perform_low = record {
   part = low_part;
   left = λ m e. subst (λ (z : Op). Contains t6.ops z × (z.place ≡ None) × IsPartOf z second_store) (some_is left m e)
       (contained t6.ops left (inr (inr (inl refl))), refl, upper_part None);
-  all = λ x q. each_byte (λ y. (covers y low ≡ true) ⊎ ((m : Op) × (Some left ≡ Some m) × (covers y m ≡ true)))
+  all = λ x q. each_byte (λ y. (has_byte y low ≡ true) ⊎ ((m : Op) × (Some left ≡ Some m) × (has_byte y m ≡ true)))
       second_store refl (inl refl) (inl refl) (inr (left, refl, refl)) (inr (left, refl, refl)) x q;
-  disjoint = λ m x e p q. each_byte (λ y. covers y low ≡ true → covers y left ≡ true → ⊥) low refl
+  disjoint = λ m x e p q. each_byte (λ y. has_byte y low ≡ true → has_byte y left ≡ true → ⊥) low refl
       (λ a b. false≢true b) (λ a b. false≢true b) (λ a b. false≢true a) (λ a b. false≢true a) x p p
-      (subst (λ (z : Op). covers x z ≡ true) (sym (some_is left m e)) q);
+      (subst (λ (z : Op). has_byte x z ≡ true) (sym (some_is left m e)) q);
 }
 
 perform_high : PerformsPart t6 t7 left high None

@@ -2,7 +2,6 @@
 use Rattle.std.proofs.Common.{ℕ, ◌+◌, ◌<◌, ◌≤◌, ◌≡◌, inl, inr, true, List, [], ◌∷◌, Option, Some, None, refl, sym, ap}
 use Rattle.std.proofs.Common.{subst, ◌∙◌, arith}
 use Rattle.std.proofs.lemmas.Bool.{false≢true}
-use Rattle.std.specs.List.{Contains}
 use Rattle.tandem_base.specs.declared.extent.Extent.{Extent}
 use Rattle.tandem_base.specs.declared.names.OpName.{OpName}
 use Rattle.tandem_base.specs.declared.names.Place.{Place}
@@ -10,17 +9,17 @@ use Rattle.rvwmo_model.specs.declared.instructions.Retired.{Retired}
 use Rattle.rvwmo_model.specs.declared.operations.Op.{Op}
 use Rattle.rvwmo_model.specs.declared.operations.OpKind.{OpKind}
 use Rattle.rvwmo_model.specs.declared.operations.OpKind.TheVariants as kind
-use Rattle.rvwmo_model.specs.Order.{stands_before, covers, precedes, everything}
+use Rattle.rvwmo_model.specs.Order.{stands_before, has_byte, precedes, everything}
 use Rattle.rvwmo_model.specs.InForm.{IsPlaced, IsWhole}
 use Rattle.growth_laws.specs.Kinds.{IsNamed}
-use Rattle.growth_laws.specs.Growth.{IsAbove, AddEarly, AddInsn, adds_loads, adds_store, adds_atomic}
+use Rattle.growth_laws.specs.Growth.{AddEarly, AddInsn, adds_loads, adds_store, adds_atomic}
 use Rattle.growth_laws.specs.Laws.{nothing_yet}
 use Rattle.memory_traces.specs.Example.{word, other_word, op, name, place, bytes, first, second, third, other}
 use Rattle.memory_traces.specs.Example.{first_store, second_store, load, early, amo, t1, t2, t3, t4, t5}
 use Rattle.growth_laws.proofs.Places.{not_both}
 use Rattle.rvwmo_model.proofs.Membership.{nothing_in, head_in}
 use Rattle.memory_traces.proofs.Formed.{once_by}
-use Rattle.memory_traces.proofs.Occurring.{Among, among, are_one, add_one, members_self, each_inside, each_byte}
+use Rattle.memory_traces.proofs.Occurring.{Among, among, are_one, add_one, members_self, each_covered, each_byte}
 
 -- ---- operations of one word
 
@@ -29,7 +28,7 @@ pub whole_op : (k : OpKind) (n : OpName) (e : Extent) (mask a b : ℕ) (p : Opti
 whole_op k n e mask a b p four some less = record { some = some; within = rw four less; got = sym four; put = sym four }
 
 pub named_op : (k : OpKind) (h t : ℕ) (e : Extent) (got put : List ℕ) (p : Option Place) → e.len ≡ 4
-    → covers (e.addr + 0) (op k (name h t 0) e 15 got put p) ≡ true → IsNamed (op k (name h t 0) e 15 got put p)
+    → has_byte (e.addr + 0) (op k (name h t 0) e 15 got put p) ≡ true → IsNamed (op k (name h t 0) e 15 got put p)
 named_op k h t e got put p four here = record {
   here = here;
   lowest = λ x q. each_byte (λ y. e.addr + 0 ≤ y) (op k (name h t 0) e 15 got put p) four (omega arith) (omega arith)
@@ -80,7 +79,7 @@ add_first = add_one (nothing_yet 0) first first_store [] (λ i j d a b. absurd (
       early = members_self [];
       one = refl;
       unperformed = refl;
-      all = λ x i. each_inside (λ y. covers y first_store ≡ true) 4098 refl refl refl refl x i.0 i.1;
+      all = λ x i. each_covered (λ y. has_byte y first_store ≡ true) first_store.extent refl refl refl refl refl x i;
       plain = (refl, refl);
     }))
 
@@ -95,7 +94,7 @@ add_second = add_one t1 second second_store [] add_first.keeps.rising (once_by t
       early = members_self [];
       one = refl;
       unperformed = refl;
-      all = λ x i. each_inside (λ y. covers y second_store ≡ true) 4098 refl refl refl refl x i.0 i.1;
+      all = λ x i. each_covered (λ y. has_byte y second_store ≡ true) second_store.extent refl refl refl refl refl x i;
       plain = (refl, refl);
     }))
 

@@ -1,7 +1,6 @@
 -- The example with an LR and its SC grows as it says.
-use Rattle.std.proofs.Common.{ℕ, ◌<◌, ◌≡◌, ◌⊎◌, inl, inr, true, [], ◌∷◌, Some, None, refl, sym, ap, subst, ◌∙◌, arith}
+use Rattle.std.proofs.Common.{ℕ, ◌<◌, ◌≡◌, inl, inr, true, [], ◌∷◌, Some, refl, sym, subst, ◌∙◌, arith}
 use Rattle.std.proofs.lemmas.Bool.{false≢true}
-use Rattle.std.specs.List.{Contains}
 use Rattle.tandem_base.specs.declared.names.Place.{Place}
 use Rattle.tandem_base.specs.Extents.{IsAligned}
 use Rattle.rvwmo_model.specs.declared.instructions.Retired.{Retired}

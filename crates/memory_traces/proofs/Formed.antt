@@ -18,7 +18,7 @@ use Rattle.rvwmo_model.proofs.Membership.{nothing_in, head_in, tail_in, in_cases
 use Rattle.rvwmo_model.proofs.Searches.{some_is}
 use Rattle.memory_traces.specs.FormTest.{each_two, lone, follows, one_name, same_place, clash, apart, is_named}
 use Rattle.memory_traces.specs.FormTest.{is_performed, fits, whole, is_of, single, is_granule, is_aligned, in_form}
-use Rattle.rvwmo_model.specs.InsnKinds.{is_lr, is_sc}
+use Rattle.rv_decode.specs.Kinds.{is_lr, is_sc}
 
 all_in : {X : Type 0} (p : X → Bool) (xs : List X) (x : X) → list_all p xs ≡ true → Contains xs x → p x ≡ true
 all_in p [] x e h = absurd (nothing_in x h)

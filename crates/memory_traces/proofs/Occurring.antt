@@ -1,7 +1,7 @@
 -- Growths that occur.
 use Rattle.std.proofs.Common.{ℕ, zero, suc, ◌+◌, ◌-◌, ◌<◌, ◌≤◌, ◌≡◌, ◌≢◌, ◌⊎◌, inl, inr, Bool, true, false, List, []}
-use Rattle.std.proofs.Common.{◌∷◌, ◌++◌, eqb, leb, ltb, ◌&&◌, cond, Some, None, refl, sym, ap, subst, ◌∙◌, arith}
-use Rattle.std.proofs.lemmas.Bool.{and_parts, eqb-true, leb-true, ltb-true}
+use Rattle.std.proofs.Common.{◌∷◌, ◌++◌, eqb, ◌&&◌, cond, Some, None, refl, sym, ap, subst, ◌∙◌, arith}
+use Rattle.std.proofs.lemmas.Bool.{and_parts, eqb-true}
 use Rattle.std.specs.List.{Contains, AllPairs}
 use Rattle.std.proofs.lemmas.List.Elements.{Contains-append_cases, Contains-append_left, Contains-append_right}
 use Rattle.std.proofs.lemmas.List.Elements.{Contains-get_or}
@@ -9,7 +9,10 @@ use Rattle.std.proofs.lemmas.List.Quantifiers.{all_pairs_push}
 use Rattle.rvwmo_model.specs.declared.instructions.Retired.{Retired}
 use Rattle.rvwmo_model.specs.declared.operations.Op.{Op}
 use Rattle.rvwmo_model.specs.declared.traces.Trace.{Trace}
-use Rattle.rvwmo_model.specs.Order.{covers}
+use Rattle.tandem_base.specs.declared.extent.Extent.{Extent}
+use Rattle.tandem_base.specs.Extents.{Covers, is_among}
+use Rattle.rvwmo_model.specs.Order.{has_byte}
+use Rattle.rvwmo_model.proofs.Extents.{bounds_of}
 use Rattle.rvwmo_model.specs.ProgramOrder.{insn_at}
 use Rattle.rvwmo_model.specs.InForm.{AreRising, IsOf, IsWhole}
 use Rattle.rvwmo_model.proofs.Membership.{nothing_in, head_in, first_in, tail_in, in_cases}
@@ -156,12 +159,16 @@ each_inside P addr a b c d x low high = at (below_four (x - addr) (omega (arith,
     at (inr (inr (inl e))) = subst P (sym (is 2 e)) c
     at (inr (inr (inr e))) = subst P (sym (is 3 e)) d
 
+-- and of each byte of an extent
+pub each_covered : (P : ℕ → Type 0) (e : Extent) → e.len ≡ 4 → P e.addr → P (e.addr + 1) → P (e.addr + 2)
+    → P (e.addr + 3) → (x : ℕ) → Covers e x → P x
+each_covered P e four a b c d x q =
+    let l = bounds_of e x q in
+    let high : x < e.addr + e.len = l.1 in
+    each_inside P e.addr a b c d x l.0 (omega (arith, high, four))
+
 -- and of each byte of an operation
 pub each_byte : (P : ℕ → Type 0) (o : Op) → o.extent.len ≡ 4 → P o.extent.addr → P (o.extent.addr + 1)
-    → P (o.extent.addr + 2) → P (o.extent.addr + 3) → (x : ℕ) → covers x o ≡ true → P x
+    → P (o.extent.addr + 2) → P (o.extent.addr + 3) → (x : ℕ) → has_byte x o ≡ true → P x
 each_byte P o four a b c d x q =
-    let parts = and_parts (leb o.extent.addr x) (ltb (x - o.extent.addr) o.extent.len)
-    (and_parts (leb o.extent.addr x && ltb (x - o.extent.addr) o.extent.len) _ q).0 in
-    let low : o.extent.addr ≤ x = leb-true _ _ parts.0 in
-    let high : x - o.extent.addr < o.extent.len = ltb-true _ _ parts.1 in
-    each_inside P o.extent.addr a b c d x low (omega (arith, low, high, four))
+    each_covered P o.extent four a b c d x (and_parts (is_among o.extent.addr o.extent.len x) _ q).0

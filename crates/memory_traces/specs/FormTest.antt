@@ -8,7 +8,7 @@ use Rattle.tandem_base.specs.declared.names.Place.{Place}
 use Rattle.rvwmo_model.specs.declared.instructions.Retired.{Retired}
 use Rattle.rvwmo_model.specs.declared.operations.Op.{Op}
 use Rattle.rvwmo_model.specs.ProgramOrder.{insn_at, is_one}
-use Rattle.rvwmo_model.specs.InsnKinds.{is_lr, is_sc}
+use Rattle.rv_decode.specs.Kinds.{is_lr, is_sc}
 
 -- each passes with all that stand after it
 abbrev pub each_two : {X : Type 0} → (X → X → Bool) → List X → Bool

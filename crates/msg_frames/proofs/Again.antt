@@ -3,7 +3,7 @@ use Rattle.std.proofs.Common.{◌≡◌, ℕ, suc, ◌+◌, ◌%◌, ◌^◌, �
 use Rattle.std.proofs.Common.{length, take, get_or, add-zero, zero-add, refl, ◌∙◌, ap, arith, Option, Some}
 use Rattle.std.proofs.Common.{Ok, length-append, None}
 use Rattle.std.specs.Prelude.{◌==◌, nat_lt, nat_le, ◌&&◌, not}
-use Rattle.std.specs.Int.{w16, w32, w64, to_le_bytes, from_le_bytes}
+use Rattle.std.specs.Int.{w16, w32, w64, to_le_bytes, from_le_bytes, bit_at}
 use Rattle.std.proofs.lemmas.Bool.{eq-eqb, lt-ltb, le-leb, and_from, cond-true, cond-false}
 use Rattle.std.proofs.lemmas.Bool.Decides.{nat_tests}
 use Rattle.std.proofs.lemmas.List.{take_all}
@@ -23,10 +23,10 @@ use Rattle.msg_frames.specs.declared.message.Body.TheVariants as body
 use Rattle.msg_frames.specs.declared.message.Message.{Message}
 use Rattle.msg_frames.specs.declared.kinds.Kind.{Kind}
 use Rattle.msg_frames.specs.declared.kinds.Kind.TheVariants as kind
-use Rattle.msg_frames.specs.Fields.{byte_in, u16_in, u64_in}
+use Rattle.tandem_base.specs.Fields.{byte_at, u16_at, u64_at}
 use Rattle.msg_frames.specs.Kinds.{code_of, kind_of, kind_coded, has_length}
-use Rattle.msg_frames.specs.Frames.{body_bytes, piece_bytes, head_bytes, frame, FitsBody, HoldsBody, FitsPiece}
-use Rattle.msg_frames.specs.Frames.{HoldsPiece, mask_bit, is_poked_csr}
+use Rattle.msg_frames.specs.Frames.{body_bytes, piece_bytes, head_bytes, frame, FitsBody, BodyInRange, FitsPiece}
+use Rattle.msg_frames.specs.Frames.{PieceInRange, is_poked_csr}
 use Rattle.msg_frames.specs.Reading.{rule, zeros, is_stray, unmasked_zeros, field_fault, piece_fault, head_in}
 use Rattle.msg_frames.specs.Reading.{piece_in, body_in, message_in, is_whole, reading_of, reading}
 
@@ -47,17 +47,17 @@ code_coded kind.Retire = refl
 code_coded kind.Squash = refl
 code_coded kind.End = refl
 
-pub reading_by : (which : Kind) (bytes : List ℕ) (message : Message) → length bytes ≡ u16_in 0 bytes + 2
-    → 18 ≤ u16_in 0 bytes → u16_in 0 bytes ≤ 512
-    → byte_in 2 bytes ≡ code_of which → has_length which (u16_in 0 bytes) ≡ true → field_fault which bytes ≡ None
+pub reading_by : (which : Kind) (bytes : List ℕ) (message : Message) → length bytes ≡ u16_at 0 bytes + 2
+    → 18 ≤ u16_at 0 bytes → u16_at 0 bytes ≤ 512
+    → byte_at 2 bytes ≡ code_of which → has_length which (u16_at 0 bytes) ≡ true → field_fault which bytes ≡ None
     → message_in which bytes ≡ message
     → reading bytes ≡ Ok message
 unfolding reading reading_of
 reading_by which bytes message size low high code allowed checked value =
-    cond-true (is_whole bytes) (reading_of (kind_coded (byte_in 2 bytes)) bytes) _ (whole_from (length bytes)
-    (u16_in 0 bytes) size low high)
+    cond-true (is_whole bytes) (reading_of (kind_coded (byte_at 2 bytes)) bytes) _ (whole_from (length bytes)
+    (u16_at 0 bytes) size low high)
     ∙ ap (λ (o : Option Kind). reading_of o bytes) (ap kind_coded code ∙ code_coded which)
-    ∙ cond-true (has_length which (u16_in 0 bytes)) (unless (field_fault which bytes)
+    ∙ cond-true (has_length which (u16_at 0 bytes)) (unless (field_fault which bytes)
     (message_in which bytes)) _ allowed
     ∙ ap (λ (c : Option FrameFault). unless c (message_in which bytes)) checked ∙ ap Ok value
 
@@ -93,13 +93,13 @@ length_frame message = length-append (head_bytes (18 + length (body_bytes messag
     (code_of (kind_of message.body)) message.head) (body_bytes message.body)
 
 pub u16_frame : (message : Message) → length (body_bytes message.body) < 1000
-    → u16_in 0 (frame message) ≡ 18 + length (body_bytes message.body)
+    → u16_at 0 (frame message) ≡ 18 + length (body_bytes message.body)
 u16_frame message few = from_le_bytes-to_le_bytes_2 (18 + length (body_bytes message.body)) (omega arith)
 
 pub head_again : (message : Message) → message.head.time < 2 ^ 64 → message.head.tag < 2 ^ 64
     → head_in (frame message) ≡ message.head
-head_again message t g = record_head message.head.hart (u64_in 4 (frame message)) message.head.time
-    (u64_in 12 (frame message)) message.head.tag
+head_again message t g = record_head message.head.hart (u64_at 4 (frame message)) message.head.time
+    (u64_at 12 (frame message)) message.head.tag
     (from_le_bytes-to_le_bytes_8 message.head.time t) (from_le_bytes-to_le_bytes_8 message.head.tag g)
 
 -- the fields of a message are found again in its frame
@@ -113,7 +113,7 @@ pub record Again (head : Head) (body : Body) : Type 0 where
 abbrev pub of : Head → Body → Message
 of head body = record { head = head; body = body }
 
-pub again_open : (head : Head) (info : OpenInfo) → FitsBody head (body.Open info) → HoldsBody (body.Open info)
+pub again_open : (head : Head) (info : OpenInfo) → FitsBody head (body.Open info) → BodyInRange (body.Open info)
     → Again head (body.Open info)
 again_open head info fits holds = record {
   few = omega arith;
@@ -137,16 +137,16 @@ same_poke target target' value value' e f = rw (e, f) refl
 
 pub again_poke : (head : Head) (target : Target) (value : ℕ)
     → FitsBody head (body.Poke (record { target = target; value = value }))
-    → HoldsBody (body.Poke (record { target = target; value = value }))
+    → BodyInRange (body.Poke (record { target = target; value = value }))
     → Again head (body.Poke (record { target = target; value = value }))
 again_poke head Pc value fits holds =
-    let same : u64_in 24 (frame (of head (body.Poke (record { target = Pc; value = value })))) ≡ value =
+    let same : u64_at 24 (frame (of head (body.Poke (record { target = Pc; value = value })))) ≡ value =
     from_le_bytes-to_le_bytes_8 value holds.1 in
     record {
       few = omega arith;
       allowed = refl;
       checked = then_from (zeros 12 (to_le_bytes w64 head.tag)) _ (zeros_u64 12 head.tag fits.0)
-          (rule_from form.Field 24 _ (eq-eqb (u64_in 24
+          (rule_from form.Field 24 _ (eq-eqb (u64_at 24
           (frame (of head (body.Poke (record { target = Pc; value = value })))) % 4) 0 (ap (λ n. n % 4) same
           ∙ fits.1)));
       value = ap (λ (v : ℕ). body.Poke (record { target = Pc; value = v })) same;
@@ -183,7 +183,7 @@ pub record AgainPiece (bytes : List ℕ) (piece : Piece) : Type 0 where
   pub value : piece_in bytes ≡ piece
 
 pub again_piece : (size code : ℕ) (head : Head) (piece : Piece) → size ≡ 18 + length (piece_bytes piece)
-    → FitsPiece piece → HoldsPiece piece
+    → FitsPiece piece → PieceInRange piece
     → AgainPiece (head_bytes size code head ++ piece_bytes piece) piece
 again_piece size code head piece is fits holds =
     let long : length (piece_bytes piece) ≡ 9 + length piece.bytes = length-append (to_le_bytes w64 piece.addr)
@@ -200,11 +200,11 @@ again_piece size code head piece is fits holds =
 
 -- ---- Write
 
-pub unmasked_from : (mask k : ℕ) (bytes : List ℕ) → ((i : ℕ) → i < length bytes → mask_bit mask (k + i) ≡ 0
+pub unmasked_from : (mask k : ℕ) (bytes : List ℕ) → ((i : ℕ) → i < length bytes → bit_at mask (k + i) ≡ 0
     → get_or bytes i 0 ≡ 0) → unmasked_zeros mask k bytes ≡ None
 unmasked_from mask k [] h = refl
 unmasked_from mask k (byte ∷ bytes) h =
-    cond-false (is_stray mask k byte) _ (unmasked_zeros mask (k + 1) bytes) (stray_from (mask_bit mask k) byte
+    cond-false (is_stray mask k byte) _ (unmasked_zeros mask (k + 1) bytes) (stray_from (bit_at mask k) byte
     (λ outside. h 0 (omega arith) (rw add-zero outside)))
     ∙ unmasked_from mask (k + 1) bytes (λ i below outside. let same : k + suc i ≡ k + 1 + i = omega arith in
     h (suc i) (omega arith) (rw same outside))
@@ -218,7 +218,7 @@ same_write : (line line' mask mask' : ℕ) (bytes bytes' : List ℕ) → line �
     })
 same_write line line' mask mask' bytes bytes' e f g = rw (e, f, g) refl
 
-pub again_write : (head : Head) (write : LineWrite) → FitsBody head (body.Write write) → HoldsBody (body.Write write)
+pub again_write : (head : Head) (write : LineWrite) → FitsBody head (body.Write write) → BodyInRange (body.Write write)
     → Again head (body.Write write)
 again_write head write fits holds =
     let size : length (body_bytes (body.Write write)) ≡ 80 =

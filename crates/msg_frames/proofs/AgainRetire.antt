@@ -13,7 +13,8 @@ use Rattle.msg_frames.specs.declared.message.Head.{Head}
 use Rattle.msg_frames.specs.declared.message.RdValue.{RdValue}
 use Rattle.msg_frames.specs.declared.message.Retire.{Retire}
 use Rattle.msg_frames.specs.declared.message.Body.TheVariants as body
-use Rattle.msg_frames.specs.Frames.{retire_bytes, csr_bytes, flag, rd_number, rd_value, FitsBody, HoldsBody, HoldsCsr}
+use Rattle.msg_frames.specs.Frames.{retire_bytes, csr_bytes, flag, rd_number, rd_value, FitsBody, BodyInRange}
+use Rattle.msg_frames.specs.Frames.{CsrInRange}
 use Rattle.msg_frames.specs.Reading.{cause_fault, rd_fault, value_fault, rule, zeros, csrs_in}
 use Rattle.msg_frames.proofs.Again.{Again, then_from, rule_from}
 
@@ -31,10 +32,10 @@ same_csr : (number number' value value' : ℕ) (rest rest' : List CsrValue) → 
     → record { number = number; value = value } ∷ rest ≡ record { number = number'; value = value' } ∷ rest'
 same_csr number number' value value' rest rest' e f g = rw (e, f, g) refl
 
-csrs_again : (csrs : List CsrValue) → All HoldsCsr csrs → csrs_in (length csrs) (flat_map csr_bytes csrs) ≡ csrs
+csrs_again : (csrs : List CsrValue) → All CsrInRange csrs → csrs_in (length csrs) (flat_map csr_bytes csrs) ≡ csrs
 csrs_again [] holds = refl
 csrs_again (csr ∷ csrs) holds =
-    let first : HoldsCsr csr = holds 0 csr (omega arith) in
+    let first : CsrInRange csr = holds 0 csr (omega arith) in
     same_csr _ csr.number _ csr.value _ csrs (from_le_bytes-to_le_bytes_2 csr.number first.0)
     (from_le_bytes-to_le_bytes_8 csr.value first.1)
     (csrs_again csrs (λ k d below. holds (suc k) d (omega arith)))
@@ -104,7 +105,7 @@ same_retire : (pc pc' word word' next next' : ℕ) (trap trap' : Option ℕ) (rd
 same_retire pc pc' word word' next next' trap trap' rd rd' csrs csrs' p w n t r c = rw (p, w, n, t, r, c) refl
 
 pub again_retire : (head : Head) (retire : Retire) → FitsBody head (body.Retire retire)
-    → HoldsBody (body.Retire retire) → Again head (body.Retire retire)
+    → BodyInRange (body.Retire retire) → Again head (body.Retire retire)
 unfolding cause_fault rd_fault value_fault
 again_retire head retire fits holds =
     let size = length_retire retire in

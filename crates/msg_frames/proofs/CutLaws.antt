@@ -9,11 +9,11 @@ use Rattle.std.proofs.lemmas.Bool.{and_parts, leb-true}
 use Rattle.std.proofs.lemmas.List.{take_at, take-append-le}
 use Rattle.msg_frames.specs.declared.message.Message.{Message}
 use Rattle.msg_frames.specs.declared.message.FrameFault.{FrameFault}
-use Rattle.msg_frames.specs.Fields.{u16_in}
+use Rattle.tandem_base.specs.Fields.{u16_at}
 use Rattle.msg_frames.specs.Reading.{reading, is_length}
 use Rattle.msg_frames.specs.Cut.{End, Bad, Short, needed, is_end, put_front, cut_read, cut_front, cut_after, cut}
 use Rattle.msg_frames.specs.Frames.{frame, Fits, InRange}
-use Rattle.msg_frames.specs.Taking.{IsWhole, IsShort, size_at_front}
+use Rattle.msg_frames.specs.Taking.{IsWholeFrame, IsShort, size_at_front}
 use Rattle.msg_frames.proofs.Steps.{chosen}
 use Rattle.msg_frames.proofs.Ways.{reading_ok, whole_is}
 use Rattle.msg_frames.proofs.Frames.{reading_frame}
@@ -22,9 +22,9 @@ use Rattle.msg_frames.proofs.Taking.{needed_more}
 -- a frame needs at least its two length bytes
 pub needed_least : (bytes : List ℕ) → 2 ≤ needed bytes
 needed_least bytes =
-    cond_both (nat_lt (length bytes) 2) 2 (cond (is_length (u16_in 0 bytes)) (u16_in 0 bytes + 2) 2) (λ n. 2 ≤ n)
+    cond_both (nat_lt (length bytes) 2) 2 (cond (is_length (u16_at 0 bytes)) (u16_at 0 bytes + 2) 2) (λ n. 2 ≤ n)
     (λ e. omega arith)
-    (λ e. cond_both (is_length (u16_in 0 bytes)) (u16_in 0 bytes + 2) 2 (λ n. 2 ≤ n) (λ f. omega arith)
+    (λ e. cond_both (is_length (u16_at 0 bytes)) (u16_at 0 bytes + 2) 2 (λ n. 2 ≤ n) (λ f. omega arith)
     (λ f. omega arith))
 
 -- what a frame needs is known by its first two bytes
@@ -43,7 +43,7 @@ cut_skip (suc k) [] more e = absurd (omega arith)
 cut_skip (suc k) (byte ∷ front) more e = cut_skip k front more (omega arith)
 
 -- a whole frame at the front is read, and what follows it is cut
-cut_whole : (got more : List ℕ) → IsWhole got → cut (got ++ more) ≡ cut_read (reading got) (cut more)
+cut_whole : (got more : List ℕ) → IsWholeFrame got → cut (got ++ more) ≡ cut_read (reading got) (cut more)
 unfolding cut_after cut_front
 cut_whole [] more whole = absurd (omega arith)
 cut_whole (byte ∷ got) more whole =
@@ -58,7 +58,7 @@ cut_whole (byte ∷ got) more whole =
     ∙ ap (cut_read (reading (byte ∷ got))) (cut_skip (needed (byte ∷ (got ++ more)) - 1) got more rest)
 
 -- a message that isn't End comes before the messages of the rest
-pub cut_message : (got more : List ℕ) (message : Message) → IsWhole got → reading got ≡ Ok message
+pub cut_message : (got more : List ℕ) (message : Message) → IsWholeFrame got → reading got ≡ Ok message
     → is_end message.body ≡ false
     → cut (got ++ more) ≡ put_front message (cut more)
 unfolding cut_read
@@ -66,7 +66,7 @@ cut_message got more message whole is goes_on =
     cut_whole got more whole ∙ ap (λ r. cut_read r (cut more)) is ∙ cond-false (is_end message.body) _ _ goes_on
 
 -- an End is the last message
-pub cut_end : (got more : List ℕ) (message : Message) → IsWhole got → reading got ≡ Ok message
+pub cut_end : (got more : List ℕ) (message : Message) → IsWholeFrame got → reading got ≡ Ok message
     → is_end message.body ≡ true
     → cut (got ++ more) ≡ record { messages = message ∷ []; ending = End }
 unfolding cut_read
@@ -74,7 +74,7 @@ cut_end got more message whole is ends =
     cut_whole got more whole ∙ ap (λ r. cut_read r (cut more)) is ∙ cond-true (is_end message.body) _ _ ends
 
 -- a frame that spells no message ends the cut
-pub cut_bad : (got more : List ℕ) (fault : FrameFault) → IsWhole got → reading got ≡ Err fault
+pub cut_bad : (got more : List ℕ) (fault : FrameFault) → IsWholeFrame got → reading got ≡ Err fault
     → cut (got ++ more) ≡ record { messages = []; ending = Bad fault }
 unfolding cut_read
 cut_bad got more fault whole is = cut_whole got more whole ∙ ap (λ r. cut_read r (cut more)) is
@@ -86,22 +86,22 @@ cut_short [] short = refl
 cut_short (byte ∷ got) short = cond-true (nat_lt (length (byte ∷ got)) (needed (byte ∷ got))) _ _ (lt-ltb _ _ short)
 
 -- what is read as a message is a whole frame
-pub whole_read : (got : List ℕ) (message : Message) → reading got ≡ Ok message → IsWhole got
+pub whole_read : (got : List ℕ) (message : Message) → reading got ≡ Ok message → IsWholeFrame got
 whole_read got message is =
     let whole = whole_is got (reading_ok got message is).0 in
     let low = whole.low in
     let size = whole.size in
-    size ∙ sym (needed_more got (u16_in 0 got) (omega arith) refl (and_from (nat_le 18 (u16_in 0 got))
-    (nat_le (u16_in 0 got) 512)
-    (le-leb 18 (u16_in 0 got) whole.low) (le-leb (u16_in 0 got) 512 whole.high)))
+    size ∙ sym (needed_more got (u16_at 0 got) (omega arith) refl (and_from (nat_le 18 (u16_at 0 got))
+    (nat_le (u16_at 0 got) 512)
+    (le-leb 18 (u16_at 0 got) whole.low) (le-leb (u16_at 0 got) 512 whole.high)))
 
 -- the frame of a message is a whole frame
-pub whole_frame : (message : Message) → Fits message → InRange message → IsWhole (frame message)
+pub whole_frame : (message : Message) → Fits message → InRange message → IsWholeFrame (frame message)
 whole_frame message fits holds = whole_read (frame message) message (reading_frame message fits holds)
 
 -- the frame that lies whole at the front is a whole frame
 pub front_whole : (bytes : List ℕ) (size : ℕ) → size ≡ size_at_front bytes → 0 < size
-    → (size ≤ length bytes) × IsWhole (take size bytes)
+    → (size ≤ length bytes) × IsWholeFrame (take size bytes)
 front_whole bytes size e some =
     elim (chosen (nat_le 20 (needed bytes) && nat_le (needed bytes) (length bytes)) (needed bytes) 0 size (sym e)) [
       | inl way ↦

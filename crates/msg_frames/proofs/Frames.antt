@@ -9,7 +9,7 @@ use Rattle.msg_frames.specs.declared.message.Body.TheVariants as body
 use Rattle.msg_frames.specs.declared.message.Message.{Message}
 use Rattle.msg_frames.specs.declared.message.FrameFault.{FrameFault}
 use Rattle.msg_frames.specs.Kinds.{kind_of}
-use Rattle.msg_frames.specs.Frames.{body_bytes, piece_bytes, frame, FitsBody, HoldsBody, Fits, InRange, Spells}
+use Rattle.msg_frames.specs.Frames.{body_bytes, piece_bytes, frame, FitsBody, BodyInRange, Fits, InRange, Spells}
 use Rattle.msg_frames.specs.Reading.{head_in, body_in, reading}
 use Rattle.msg_frames.proofs.Again.{Again, again_open, again_poke, again_piece, again_write, zero_from}
 use Rattle.msg_frames.proofs.Again.{zeros_u64, then_from, reading_by, head_again, length_frame, u16_frame}
@@ -18,7 +18,7 @@ use Rattle.msg_frames.proofs.AgainRetire.{again_retire}
 piece_allowed : (size : ℕ) → 10 ≤ size → size ≤ 17 → (nat_le 28 (18 + size) && nat_le (18 + size) 35) ≡ true
 piece_allowed size low high = and_from _ _ (le-leb 28 (18 + size) (omega arith)) (le-leb (18 + size) 35 (omega arith))
 
-pub again_of : (head : Head) (body : Body) → FitsBody head body → HoldsBody body → Again head body
+pub again_of : (head : Head) (body : Body) → FitsBody head body → BodyInRange body → Again head body
 again_of head (body.Open info) fits holds = again_open head info fits holds
 again_of head (body.Poke poke) fits holds = again_poke head poke.target poke.value fits holds
 again_of head (body.Read piece) fits holds =

@@ -8,7 +8,7 @@ use Rattle.msg_frames.specs.declared.message.FrameFault.{FrameFault}
 use Rattle.msg_frames.specs.declared.message.Message.{Message}
 use Rattle.msg_frames.specs.declared.kinds.Kind.{Kind}
 use Rattle.msg_frames.specs.declared.kinds.Kind.TheVariants as kind
-use Rattle.msg_frames.specs.Fields.{byte_in, u16_in}
+use Rattle.tandem_base.specs.Fields.{byte_at, u16_at}
 use Rattle.msg_frames.specs.Kinds.{code_of, kind_of, has_length, has_piece_length}
 use Rattle.msg_frames.specs.Frames.{AreBytes, body_bytes, frame, Spells}
 use Rattle.msg_frames.specs.Reading.{field_fault, piece_fault, body_in, message_in, reading}
@@ -19,16 +19,16 @@ use Rattle.msg_frames.proofs.Found.{found_squash, found_end}
 use Rattle.msg_frames.proofs.FoundRetire.{found_retire}
 
 -- a length of just one kind
-size_is : (bytes : List ℕ) (n m : ℕ) → Whole bytes → (u16_in 0 bytes == n) ≡ true → n + 2 ≡ m → length bytes ≡ m
-size_is bytes n m whole e sum = whole.size ∙ ap (λ k. k + 2) (eqb-true (u16_in 0 bytes) n e) ∙ sum
+size_is : (bytes : List ℕ) (n m : ℕ) → Whole bytes → (u16_at 0 bytes == n) ≡ true → n + 2 ≡ m → length bytes ≡ m
+size_is bytes n m whole e sum = whole.size ∙ ap (λ k. k + 2) (eqb-true (u16_at 0 bytes) n e) ∙ sum
 
-piece_of : (bytes : List ℕ) → AreBytes bytes → Whole bytes → has_piece_length (u16_in 0 bytes) ≡ true
+piece_of : (bytes : List ℕ) → AreBytes bytes → Whole bytes → has_piece_length (u16_at 0 bytes) ≡ true
     → piece_fault bytes ≡ None → FoundPiece bytes
 piece_of bytes ranges whole size e =
-    let parts = and_parts (nat_le 28 (u16_in 0 bytes)) (nat_le (u16_in 0 bytes) 35) size in
-    found_piece bytes ranges whole.size (leb-true 28 (u16_in 0 bytes) parts.0) (leb-true (u16_in 0 bytes) 35 parts.1) e
+    let parts = and_parts (nat_le 28 (u16_at 0 bytes)) (nat_le (u16_at 0 bytes) 35) size in
+    found_piece bytes ranges whole.size (leb-true 28 (u16_at 0 bytes) parts.0) (leb-true (u16_at 0 bytes) 35 parts.1) e
 
-found_of : (which : Kind) (bytes : List ℕ) → AreBytes bytes → Whole bytes → has_length which (u16_in 0 bytes) ≡ true
+found_of : (which : Kind) (bytes : List ℕ) → AreBytes bytes → Whole bytes → has_length which (u16_at 0 bytes) ≡ true
     → field_fault which bytes ≡ None
     → Found which bytes
 found_of kind.Open bytes ranges whole size e = found_open bytes ranges (size_is bytes 26 28 whole size refl) e
@@ -63,13 +63,13 @@ head_same : (size size' code code' hart time tag : ℕ) (rest : List ℕ) → si
     ≡ to_le_bytes w16 size' ++ code' ∷ hart ∷ to_le_bytes w64 time ++ to_le_bytes w64 tag ++ rest
 head_same size size' code code' hart time tag rest s c = rw (s, c) refl
 
-spelled_as : (which : Kind) (bytes : List ℕ) → AreBytes bytes → Whole bytes → byte_in 2 bytes ≡ code_of which
+spelled_as : (which : Kind) (bytes : List ℕ) → AreBytes bytes → Whole bytes → byte_at 2 bytes ≡ code_of which
     → Found which bytes
     → bytes ≡ frame (message_in which bytes)
 spelled_as which bytes ranges whole code found =
     let low = whole.low in let size = whole.size in
     let long : 20 ≤ length bytes = omega arith in
-    let sum : u16_in 0 bytes ≡ 18 + length (body_bytes (body_in which bytes)) =
+    let sum : u16_at 0 bytes ≡ 18 + length (body_bytes (body_in which bytes)) =
     omega (arith, ap length found.spelled, length-drop 20 bytes) in
     u16_off bytes _ 0 2 ranges (omega arith) refl (byte_off bytes _ 2 3 (omega arith) refl
     (byte_off bytes _ 3 4 (omega arith) refl
@@ -82,7 +82,7 @@ spells_read bytes message ranges whole read =
     let which = read.which in
     let found = found_of which bytes ranges whole read.length read.checked in
     let spelled : Spells bytes (message_in which bytes) = record {
-      is = spelled_as which bytes ranges whole (coded_is (byte_in 2 bytes) which read.coded) found;
+      is = spelled_as which bytes ranges whole (coded_is (byte_at 2 bytes) which read.coded) found;
       fits = found.fits;
       holds = (byte_below bytes 3 ranges, u64_below bytes 4 ranges, u64_below bytes 12 ranges, found.holds);
     } in

@@ -7,7 +7,7 @@ use Rattle.std.proofs.lemmas.Bool.Decides.{nat_tests}
 use Rattle.tandem_base.specs.FirstFault.{◌or_else◌, unless}
 use Rattle.msg_frames.specs.declared.message.FrameFault.{FrameFault}
 use Rattle.msg_frames.specs.declared.message.Form.{Form}
-use Rattle.msg_frames.specs.Frames.{mask_bit}
+use Rattle.std.specs.Int.{bit_at}
 use Rattle.msg_frames.specs.Reading.{rule, zeros, is_stray, unmasked_zeros}
 
 -- neither the first nor the next found a fault
@@ -60,11 +60,11 @@ stray_no bit byte e outside = grind (arith, nat_tests)
 
 -- each byte outside the mask is 0
 pub unmasked_ok : (mask k : ℕ) (bytes : List ℕ) → unmasked_zeros mask k bytes ≡ None → (i : ℕ)
-    → mask_bit mask (k + i) ≡ 0 → get_or bytes i 0 ≡ 0
+    → bit_at mask (k + i) ≡ 0 → get_or bytes i 0 ≡ 0
 unmasked_ok mask k [] e i outside = refl
 unmasked_ok mask k (byte ∷ bytes) e zero outside =
-    let here : mask_bit mask k ≡ 0 = rw add-zero at outside in
-    stray_no (mask_bit mask k) byte (chosen_later (is_stray mask k byte) (unmasked_zeros mask (k + 1) bytes) _ e).0 here
+    let here : bit_at mask k ≡ 0 = rw add-zero at outside in
+    stray_no (bit_at mask k) byte (chosen_later (is_stray mask k byte) (unmasked_zeros mask (k + 1) bytes) _ e).0 here
 unmasked_ok mask k (byte ∷ bytes) e (suc i) outside =
     let same : k + suc i ≡ k + 1 + i = omega arith in
     unmasked_ok mask (k + 1) bytes (chosen_later (is_stray mask k byte) (unmasked_zeros mask (k + 1) bytes) _ e).1 i

@@ -12,13 +12,10 @@ use borrow.Rule.Slice.PartMut.{put_mid, post_of}
 use Rattle.tandem_io.specs.Told.{Log, taken}
 use Rattle.tandem_io.proofs.LogLaws.{Logs-nil, Logs-trans}
 use Rattle.msg_frames.specs.declared.message.Form.TheVariants as form
-use Rattle.msg_frames.specs.Fields.{u16_in}
+use Rattle.tandem_base.specs.Fields.{u16_at}
 use Rattle.msg_frames.specs.Reading.{fault, is_length, is_whole, reading}
 use Rattle.msg_frames.specs.Cut.{needed}
-use Rattle.msg_frames.specs.declared.message.Message.{Message}
-use Rattle.msg_frames.specs.declared.source.Arrived.{Arrived}
-use Rattle.msg_frames.specs.declared.source.Arrived.TheVariants as arrived
-use Rattle.msg_frames.specs.Taking.{Took, IsWhole, IsShort, FrameIs, ArrivedIs}
+use Rattle.msg_frames.specs.Taking.{Took, IsWholeFrame, IsShort}
 
 -- ---- reads in turn
 
@@ -45,22 +42,22 @@ take_filled at k n buf part inside few =
 -- ---- what a frame needs
 
 -- a frame with a length that some frame has
-pub needed_more : (bytes : List ℕ) (length_of : ℕ) → 2 ≤ length bytes → u16_in 0 bytes ≡ length_of
+pub needed_more : (bytes : List ℕ) (length_of : ℕ) → 2 ≤ length bytes → u16_at 0 bytes ≡ length_of
     → is_length length_of ≡ true → needed bytes ≡ length_of + 2
 needed_more bytes length_of long e fits =
     cond-false (nat_lt (length bytes) 2) 2 _ (le-ltb (length bytes) 2 long)
-    ∙ cond-true (is_length (u16_in 0 bytes)) (u16_in 0 bytes + 2) 2 (ap is_length e ∙ fits) ∙ ap (λ n. n + 2) e
+    ∙ cond-true (is_length (u16_at 0 bytes)) (u16_at 0 bytes + 2) 2 (ap is_length e ∙ fits) ∙ ap (λ n. n + 2) e
 
 pub needed_low : (bytes : List ℕ) → length bytes < 2 → needed bytes ≡ 2
 needed_low bytes short = cond-true (nat_lt (length bytes) 2) 2 _ (lt-ltb (length bytes) 2 short)
 
-needed_bad : (bytes : List ℕ) → 2 ≤ length bytes → is_length (u16_in 0 bytes) ≡ false → needed bytes ≡ 2
+needed_bad : (bytes : List ℕ) → 2 ≤ length bytes → is_length (u16_at 0 bytes) ≡ false → needed bytes ≡ 2
 needed_bad bytes long bad =
     cond-false (nat_lt (length bytes) 2) 2 _ (le-ltb (length bytes) 2 long)
-    ∙ cond-false (is_length (u16_in 0 bytes)) (u16_in 0 bytes + 2) 2 bad
+    ∙ cond-false (is_length (u16_at 0 bytes)) (u16_at 0 bytes + 2) 2 bad
 
 -- the length stands in the first two bytes
-pub u16_front : (first second : List ℕ) → length first ≡ 2 → u16_in 0 (first ++ second) ≡ u16_in 0 first
+pub u16_front : (first second : List ℕ) → length first ≡ 2 → u16_at 0 (first ++ second) ≡ u16_at 0 first
 u16_front first second size =
     let front : take 2 (first ++ second) ≡ take 2 first = take-append-le 2 first second (omega arith) in
     ap (λ l. from_le_bytes w16 l) front
@@ -68,23 +65,23 @@ u16_front first second size =
 pub short_start : (got : List ℕ) → length got < 2 → IsShort got
 short_start got short = rw (needed_low got short) short
 
-pub short_later : (first second : List ℕ) → length first ≡ 2 → is_length (u16_in 0 first) ≡ true
-    → length second < u16_in 0 first
+pub short_later : (first second : List ℕ) → length first ≡ 2 → is_length (u16_at 0 first) ≡ true
+    → length second < u16_at 0 first
     → IsShort (first ++ second)
 short_later first second size fits short =
     let all = length-append first second in
-    let needs = needed_more (first ++ second) (u16_in 0 first) (omega arith) (u16_front first second size) fits in
+    let needs = needed_more (first ++ second) (u16_at 0 first) (omega arith) (u16_front first second size) fits in
     omega arith
 
-pub whole_later : (first second : List ℕ) → length first ≡ 2 → is_length (u16_in 0 first) ≡ true
-    → length second ≡ u16_in 0 first
-    → IsWhole (first ++ second)
+pub whole_later : (first second : List ℕ) → length first ≡ 2 → is_length (u16_at 0 first) ≡ true
+    → length second ≡ u16_at 0 first
+    → IsWholeFrame (first ++ second)
 whole_later first second size fits same =
     let all = length-append first second in
-    let needs = needed_more (first ++ second) (u16_in 0 first) (omega arith) (u16_front first second size) fits in
+    let needs = needed_more (first ++ second) (u16_at 0 first) (omega arith) (u16_front first second size) fits in
     omega arith
 
-pub whole_bad : (got : List ℕ) → length got ≡ 2 → is_length (u16_in 0 got) ≡ false → IsWhole got
+pub whole_bad : (got : List ℕ) → length got ≡ 2 → is_length (u16_at 0 got) ≡ false → IsWholeFrame got
 whole_bad got size bad = size ∙ sym (needed_bad got (omega arith) bad)
 
 whole_no : (a b c : Bool) → b ≡ false → (a && b && c) ≡ false
@@ -92,17 +89,17 @@ whole_no true b c e = rw e refl
 whole_no false b c e = refl
 
 -- a length out of bounds
-pub reading_bad : (got : List ℕ) → is_length (u16_in 0 got) ≡ false → reading got ≡ Err (fault form.Length 0)
+pub reading_bad : (got : List ℕ) → is_length (u16_at 0 got) ≡ false → reading got ≡ Err (fault form.Length 0)
 unfolding reading
 reading_bad got bad = cond-false (is_whole got) _ (Err (fault form.Length 0))
-    (whole_no (nat_le 2 (length got)) (is_length (u16_in 0 got)) (length got == u16_in 0 got + 2) bad)
+    (whole_no (nat_le 2 (length got)) (is_length (u16_at 0 got)) (length got == u16_at 0 got + 2) bad)
 
 -- ---- the buffer of two reads
 
 -- what the first read got begins with the length
 pub length_of_front : (front tail got : List ℕ) (n : ℕ) → length front ≡ 2 → got ≡ front
-    → n ≡ u16_in 0 (front ++ tail) → u16_in 0 got ≡ n
-length_of_front front tail got n size e is = ap (u16_in 0) e ∙ sym (u16_front front tail size) ∙ sym is
+    → n ≡ u16_at 0 (front ++ tail) → u16_at 0 got ≡ n
+length_of_front front tail got n size e is = ap (u16_at 0) e ∙ sym (u16_front front tail size) ∙ sym is
 
 -- what both reads got, as it stands in the buffer
 pub whole_text : (front tail second : List ℕ) (n k : ℕ) → length front ≡ 2 → length second ≡ n
@@ -122,12 +119,3 @@ pub part_size : (front tail part : List ℕ) (n k : ℕ) → length front ≡ 2 
 part_size front tail part n k size room few same e =
     e ∙ length-take-le (k + 2 - 2) (drop 2 (front ++ tail))
     (omega (arith, length-drop 2 (front ++ tail), length-append front tail)) ∙ omega arith
-
--- a whole frame that was read is what was taken
-pub whole_arrived : (answer : Arrived) (old new : Message) (got : List ℕ) (left : Option (List ℕ)) → IsWhole got
-    → FrameIs answer old new got
-    → ArrivedIs answer old new got left
-whole_arrived arrived.Message old new got left whole is = (whole, is.0, is.1)
-whole_arrived (arrived.Bad fault) old new got left whole is = (whole, is.0, is.1)
-whole_arrived (arrived.Ended have) old new got left whole is = absurd is
-whole_arrived arrived.Failed old new got left whole is = absurd is

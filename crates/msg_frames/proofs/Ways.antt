@@ -8,24 +8,24 @@ use Rattle.tandem_base.specs.FirstFault.{unless}
 use Rattle.msg_frames.specs.declared.message.Message.{Message}
 use Rattle.msg_frames.specs.declared.kinds.Kind.{Kind}
 use Rattle.msg_frames.specs.declared.kinds.Kind.TheVariants as kind
-use Rattle.msg_frames.specs.Fields.{byte_in, u16_in}
+use Rattle.tandem_base.specs.Fields.{byte_at, u16_at}
 use Rattle.msg_frames.specs.Kinds.{code_of, kind_coded, has_length}
 use Rattle.msg_frames.specs.Reading.{field_fault, message_in, is_whole, reading_of, reading}
 use Rattle.msg_frames.proofs.Steps.{unless_ok, chosen, chosen_ok}
 
 pub record Read (bytes : List ℕ) (message : Message) : Type 0 where
   pub which : Kind
-  pub coded : kind_coded (byte_in 2 bytes) ≡ Some which
-  pub length : has_length which (u16_in 0 bytes) ≡ true
+  pub coded : kind_coded (byte_at 2 bytes) ≡ Some which
+  pub length : has_length which (u16_at 0 bytes) ≡ true
   pub checked : field_fault which bytes ≡ None
   pub value : message_in which bytes ≡ message
 
-read_of : (o : Option Kind) (bytes : List ℕ) (message : Message) → o ≡ kind_coded (byte_in 2 bytes)
+read_of : (o : Option Kind) (bytes : List ℕ) (message : Message) → o ≡ kind_coded (byte_at 2 bytes)
     → reading_of o bytes ≡ Ok message → Read bytes message
 unfolding reading_of
 read_of None bytes message o e = cc
 read_of (Some which) bytes message o e =
-    let way = chosen_ok (has_length which (u16_in 0 bytes)) (unless (field_fault which bytes)
+    let way = chosen_ok (has_length which (u16_at 0 bytes)) (unless (field_fault which bytes)
     (message_in which bytes)) _ message e in
     let last = unless_ok (field_fault which bytes) (message_in which bytes) message way.1 in
     record { which = which; coded = sym o; length = way.0; checked = last.0; value = last.1 }
@@ -34,8 +34,8 @@ pub reading_ok : (bytes : List ℕ) (message : Message) → reading bytes ≡ Ok
     → (is_whole bytes ≡ true) × Read bytes message
 unfolding reading
 reading_ok bytes message e =
-    let way = chosen_ok (is_whole bytes) (reading_of (kind_coded (byte_in 2 bytes)) bytes) _ message e in
-    (way.0, read_of (kind_coded (byte_in 2 bytes)) bytes message refl way.1)
+    let way = chosen_ok (is_whole bytes) (reading_of (kind_coded (byte_at 2 bytes)) bytes) _ message e in
+    (way.0, read_of (kind_coded (byte_at 2 bytes)) bytes message refl way.1)
 
 coded_else : (code n : ℕ) (k : Kind) (rest : Option Kind) (which : Kind) → code_of k ≡ n
     → cond (code == n) (Some k) rest ≡ Some which
@@ -58,9 +58,9 @@ coded_is code which e =
 
 -- the length of a whole frame
 pub record Whole (bytes : List ℕ) : Type 0 where
-  pub low : 18 ≤ u16_in 0 bytes
-  pub high : u16_in 0 bytes ≤ 512
-  pub size : length bytes ≡ u16_in 0 bytes + 2
+  pub low : 18 ≤ u16_at 0 bytes
+  pub high : u16_at 0 bytes ≤ 512
+  pub size : length bytes ≡ u16_at 0 bytes + 2
 
 whole_low : (n size : ℕ) → (nat_le 2 n && (nat_le 18 size && nat_le size 512) && n == size + 2) ≡ true → 18 ≤ size
 whole_low n size e = grind (arith, nat_tests)
@@ -73,7 +73,7 @@ whole_size n size e = grind (arith, nat_tests)
 
 pub whole_is : (bytes : List ℕ) → is_whole bytes ≡ true → Whole bytes
 whole_is bytes e = record {
-  low = whole_low (length bytes) (u16_in 0 bytes) e;
-  high = whole_high (length bytes) (u16_in 0 bytes) e;
-  size = whole_size (length bytes) (u16_in 0 bytes) e;
+  low = whole_low (length bytes) (u16_at 0 bytes) e;
+  high = whole_high (length bytes) (u16_at 0 bytes) e;
+  size = whole_size (length bytes) (u16_at 0 bytes) e;
 }

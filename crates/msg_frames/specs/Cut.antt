@@ -5,7 +5,7 @@ use Rattle.msg_frames.specs.declared.message.Body.{Body}
 use Rattle.msg_frames.specs.declared.message.Body.TheVariants as body
 use Rattle.msg_frames.specs.declared.message.Message.{Message}
 use Rattle.msg_frames.specs.declared.message.FrameFault.{FrameFault}
-use Rattle.msg_frames.specs.Fields.{u16_in}
+use Rattle.tandem_base.specs.Fields.{u16_at}
 use Rattle.msg_frames.specs.Reading.{is_length, reading}
 
 -- why a cut is over: an End, a frame that spells no message, or fewer bytes left than the frame needs
@@ -22,7 +22,7 @@ pub record Cut : Type 0 where
 -- how many bytes the frame at the front needs: two until its length is known, and just these where
 -- no frame has the length
 abbrev pub needed : List ℕ → ℕ
-needed bytes = if nat_lt (length bytes) 2 then 2 else if is_length (u16_in 0 bytes) then u16_in 0 bytes + 2 else 2
+needed bytes = if nat_lt (length bytes) 2 then 2 else if is_length (u16_at 0 bytes) then u16_at 0 bytes + 2 else 2
 
 -- the message is an End
 abbrev pub is_end : Body → Bool

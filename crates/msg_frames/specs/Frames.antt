@@ -1,7 +1,7 @@
 -- The one spelling of a message, and the rules that its fields keep.
-use Rattle.std.specs.Prelude.{◌≡◌, ℕ, ◌+◌, ◌/◌, ◌%◌, ◌^◌, ◌<◌, ◌≤◌, Bool, IsTrue, nat_eq, List, [], ◌∷◌}
+use Rattle.std.specs.Prelude.{◌≡◌, ℕ, ◌+◌, ◌%◌, ◌^◌, ◌<◌, ◌≤◌, Bool, IsTrue, nat_eq, List, [], ◌∷◌}
 use Rattle.std.specs.Prelude.{◌++◌, length, slice_index, All, Option, Some, None, IfSome, unwrap_or}
-use Rattle.std.specs.Int.{w16, w32, w64, to_le_bytes}
+use Rattle.std.specs.Int.{w16, w32, w64, to_le_bytes, bit_at}
 use Rattle.std.specs.List.{flat_map, list_any}
 use Rattle.tandem_base.specs.CsrNumbers as csr
 use Rattle.msg_frames.specs.declared.csrs.CsrValue.{CsrValue}
@@ -123,14 +123,10 @@ FitsTarget Pc value = value % 4 ≡ 0
 FitsTarget (X number) value = (1 ≤ number) × (number ≤ 31)
 FitsTarget (Csr number) value = IsTrue (is_poked_csr number)
 
--- bit k of a mask stands for byte k
-abbrev pub mask_bit : ℕ → ℕ → ℕ
-mask_bit mask k = mask / 2 ^ k % 2
-
--- a line is a multiple of 64, and bytes outside its mask are 0
+-- a line is a multiple of 64, and bytes outside its mask are 0: bit k of the mask stands for byte k
 abbrev pub FitsWrite : LineWrite → Type 0
 FitsWrite write = (write.line % 64 ≡ 0)
-    × ((k : ℕ) → k < 64 → mask_bit write.mask k ≡ 0 → slice_index write.bytes k ≡ 0)
+    × ((k : ℕ) → k < 64 → bit_at write.mask k ≡ 0 → slice_index write.bytes k ≡ 0)
 
 -- the register that is written is x1 to x31, and there are at most four CSRs
 abbrev pub FitsRetire : Retire → Type 0
@@ -156,50 +152,50 @@ FitsBody head body.End = (head.hart ≡ 0) × (head.tag ≡ 0)
 abbrev pub Fits : Message → Type 0
 Fits message = FitsBody message.head message.body
 
--- ---- what the types of the fields hold
+-- ---- the ranges of the fields
 
 -- each is a byte
 abbrev pub AreBytes : List ℕ → Type 0
 AreBytes bytes = (k : ℕ) → slice_index bytes k < 2 ^ 8
 
 -- a register's number is a byte, a CSR's two
-abbrev pub HoldsTarget : Target → Type 0
-HoldsTarget Pc = Unit {0}
-HoldsTarget (X number) = number < 2 ^ 8
-HoldsTarget (Csr number) = number < 2 ^ 16
+abbrev pub TargetInRange : Target → Type 0
+TargetInRange Pc = Unit {0}
+TargetInRange (X number) = number < 2 ^ 8
+TargetInRange (Csr number) = number < 2 ^ 16
 
 -- an address of 64 bits, and bytes
-abbrev pub HoldsPiece : Piece → Type 0
-HoldsPiece piece = (piece.addr < 2 ^ 64) × AreBytes piece.bytes
+abbrev pub PieceInRange : Piece → Type 0
+PieceInRange piece = (piece.addr < 2 ^ 64) × AreBytes piece.bytes
 
 -- a number of 16 bits and a value of 64
-abbrev pub HoldsCsr : CsrValue → Type 0
-HoldsCsr csr = (csr.number < 2 ^ 16) × (csr.value < 2 ^ 64)
+abbrev pub CsrInRange : CsrValue → Type 0
+CsrInRange csr = (csr.number < 2 ^ 16) × (csr.value < 2 ^ 64)
 
 -- the numbers of a Retire, each in as many bits as its field has
-abbrev pub HoldsRetire : Retire → Type 0
-HoldsRetire retire = (retire.pc < 2 ^ 64) × (retire.word < 2 ^ 32) × (retire.next < 2 ^ 64)
+abbrev pub RetireInRange : Retire → Type 0
+RetireInRange retire = (retire.pc < 2 ^ 64) × (retire.word < 2 ^ 32) × (retire.next < 2 ^ 64)
     × IfSome retire.trap (λ cause. cause < 2 ^ 8)
-    × IfSome retire.rd (λ rd. (rd.number < 2 ^ 8) × (rd.value < 2 ^ 64)) × All HoldsCsr retire.csrs
+    × IfSome retire.rd (λ rd. (rd.number < 2 ^ 8) × (rd.value < 2 ^ 64)) × All CsrInRange retire.csrs
 
 -- the numbers of each kind, each in as many bits as its field has
-abbrev pub HoldsBody : Body → Type 0
-HoldsBody (body.Open info) = (info.version < 2 ^ 8) × (info.harts < 2 ^ 8) × (info.flags < 2 ^ 8)
+abbrev pub BodyInRange : Body → Type 0
+BodyInRange (body.Open info) = (info.version < 2 ^ 8) × (info.harts < 2 ^ 8) × (info.flags < 2 ^ 8)
     × (info.granule < 2 ^ 8) × (info.skew < 2 ^ 32)
-HoldsBody (body.Poke poke) = HoldsTarget poke.target × (poke.value < 2 ^ 64)
-HoldsBody (body.Read piece) = HoldsPiece piece
-HoldsBody (body.Insert piece) = HoldsPiece piece
-HoldsBody (body.Write write) =
+BodyInRange (body.Poke poke) = TargetInRange poke.target × (poke.value < 2 ^ 64)
+BodyInRange (body.Read piece) = PieceInRange piece
+BodyInRange (body.Insert piece) = PieceInRange piece
+BodyInRange (body.Write write) =
     (write.line < 2 ^ 64) × (write.mask < 2 ^ 64) × (length write.bytes ≡ 64) × AreBytes write.bytes
-HoldsBody (body.Bypass piece) = HoldsPiece piece
-HoldsBody (body.Retire retire) = HoldsRetire retire
-HoldsBody body.Squash = Unit {0}
-HoldsBody body.End = Unit {0}
+BodyInRange (body.Bypass piece) = PieceInRange piece
+BodyInRange (body.Retire retire) = RetireInRange retire
+BodyInRange body.Squash = Unit {0}
+BodyInRange body.End = Unit {0}
 
 -- each number is in the range of its field
 abbrev pub InRange : Message → Type 0
 InRange message = (message.head.hart < 2 ^ 8) × (message.head.time < 2 ^ 64) × (message.head.tag < 2 ^ 64)
-    × HoldsBody message.body
+    × BodyInRange message.body
 
 -- the bytes are the frame of this message
 pub record Spells (bytes : List ℕ) (message : Message) : Type 0 where

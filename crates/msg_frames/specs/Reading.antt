@@ -17,12 +17,13 @@ use Rattle.msg_frames.specs.declared.message.Body.{Body}
 use Rattle.msg_frames.specs.declared.message.Body.TheVariants as body
 use Rattle.msg_frames.specs.declared.message.Message.{Message}
 use Rattle.msg_frames.specs.declared.message.Form.{Form}
+use Rattle.std.specs.Int.{bit_at}
 use Rattle.msg_frames.specs.declared.message.Form.TheVariants as form
 use Rattle.msg_frames.specs.declared.message.FrameFault.{FrameFault}
 use Rattle.msg_frames.specs.declared.kinds.Kind.{Kind}
 use Rattle.msg_frames.specs.declared.kinds.Kind.TheVariants as kind
-use Rattle.msg_frames.specs.Fields.{byte_in, u16_in, u32_in, u64_in}
-use Rattle.msg_frames.specs.Frames.{mask_bit, is_poked_csr}
+use Rattle.tandem_base.specs.Fields.{byte_at, u16_at, u32_at, u64_at}
+use Rattle.msg_frames.specs.Frames.{is_poked_csr}
 use Rattle.msg_frames.specs.Kinds.{kind_coded, has_length}
 
 -- ---- the first fault of the fields, in the order of their offsets
@@ -47,7 +48,7 @@ reserved at count frame = zeros at (take count (drop at frame))
 
 -- byte k of a line is outside the mask, and not 0
 abbrev pub is_stray : ℕ → ℕ → ℕ → Bool
-is_stray mask k byte = mask_bit mask k == 0 && not (byte == 0)
+is_stray mask k byte = bit_at mask k == 0 && not (byte == 0)
 
 -- these bytes, the first with number k of its line, have to be 0 outside the mask; byte k is at
 -- offset 36 + k
@@ -61,45 +62,45 @@ abbrev pub open_fault : List ℕ → Option FrameFault
 open_fault frame =
     reserved 3 1 frame
     or_else reserved 12 8 frame
-    or_else rule form.Field 20 (byte_in 20 frame == 1)
-    or_else rule form.Field 21 (nat_le 1 (byte_in 21 frame) && nat_le (byte_in 21 frame) 16)
-    or_else rule form.Reserved 22 (nat_lt (byte_in 22 frame) 4)
+    or_else rule form.Field 20 (byte_at 20 frame == 1)
+    or_else rule form.Field 21 (nat_le 1 (byte_at 21 frame) && nat_le (byte_at 21 frame) 16)
+    or_else rule form.Reserved 22 (nat_lt (byte_at 22 frame) 4)
     or_else reserved 23 1 frame
     or_else reserved 24 4 frame
 
 -- the number and the value that go with each target
 abbrev pub target_fault : ℕ → List ℕ → Option FrameFault
 target_fault target frame =
-    if target == 0 then reserved 22 2 frame or_else rule form.Field 24 (u64_in 24 frame % 4 == 0)
-    else if target == 1 then rule form.Field 22 (nat_le 1 (u16_in 22 frame) && nat_le (u16_in 22 frame) 31)
-    else rule form.Field 22 (is_poked_csr (u16_in 22 frame))
+    if target == 0 then reserved 22 2 frame or_else rule form.Field 24 (u64_at 24 frame % 4 == 0)
+    else if target == 1 then rule form.Field 22 (nat_le 1 (u16_at 22 frame) && nat_le (u16_at 22 frame) 31)
+    else rule form.Field 22 (is_poked_csr (u16_at 22 frame))
 
 -- the tag, the target, the zero, and what goes with the target
 abbrev pub poke_fault : List ℕ → Option FrameFault
 poke_fault frame =
     reserved 12 8 frame
-    or_else rule form.Field 20 (nat_le (byte_in 20 frame) 2)
+    or_else rule form.Field 20 (nat_le (byte_at 20 frame) 2)
     or_else reserved 21 1 frame
-    or_else target_fault (byte_in 20 frame) frame
+    or_else target_fault (byte_at 20 frame) frame
 
 -- as many bytes of memory as the length leaves room for
 abbrev pub piece_fault : List ℕ → Option FrameFault
-piece_fault frame = rule form.Field 28 (27 + byte_in 28 frame == u16_in 0 frame)
+piece_fault frame = rule form.Field 28 (27 + byte_at 28 frame == u16_at 0 frame)
 
 -- the tag, the line, and the bytes outside the mask
 abbrev pub write_fault : List ℕ → Option FrameFault
 write_fault frame =
     reserved 12 8 frame
-    or_else rule form.Field 20 (u64_in 20 frame % 64 == 0)
-    or_else unmasked_zeros (u64_in 28 frame) 0 (take 64 (drop 36 frame))
+    or_else rule form.Field 20 (u64_at 20 frame % 64 == 0)
+    or_else unmasked_zeros (u64_at 28 frame) 0 (take 64 (drop 36 frame))
 
 -- bit 0 of the flags: it trapped
 abbrev pub has_trap : List ℕ → Bool
-has_trap frame = byte_in 40 frame % 2 == 1
+has_trap frame = byte_at 40 frame % 2 == 1
 
 -- bit 1 of the flags: it wrote a register
 abbrev pub has_rd : List ℕ → Bool
-has_rd frame = byte_in 40 frame / 2 % 2 == 1
+has_rd frame = byte_at 40 frame / 2 % 2 == 1
 
 -- without a trap the cause is 0
 unfoldable pub cause_fault : List ℕ → Option FrameFault
@@ -108,7 +109,7 @@ cause_fault frame = if has_trap frame then None else reserved 41 1 frame
 -- the register that is written is x1 to x31, and else 0
 unfoldable pub rd_fault : List ℕ → Option FrameFault
 rd_fault frame =
-    if has_rd frame then rule form.Field 42 (nat_le 1 (byte_in 42 frame) && nat_le (byte_in 42 frame) 31)
+    if has_rd frame then rule form.Field 42 (nat_le 1 (byte_at 42 frame) && nat_le (byte_at 42 frame) 31)
     else reserved 42 1 frame
 
 -- without a register its value is 0
@@ -118,10 +119,10 @@ value_fault frame = if has_rd frame then None else reserved 44 8 frame
 -- the flags, the cause, the register, how many CSRs the length leaves room for, and the value
 abbrev pub retire_fault : List ℕ → Option FrameFault
 retire_fault frame =
-    rule form.Reserved 40 (nat_lt (byte_in 40 frame) 4)
+    rule form.Reserved 40 (nat_lt (byte_at 40 frame) 4)
     or_else cause_fault frame
     or_else rd_fault frame
-    or_else rule form.Field 43 (50 + 10 * byte_in 43 frame == u16_in 0 frame)
+    or_else rule form.Field 43 (50 + 10 * byte_at 43 frame == u16_at 0 frame)
     or_else value_fault frame
 
 -- the hart and the tag
@@ -144,59 +145,59 @@ field_fault kind.End frame = end_fault frame
 
 -- the hart, the time and the tag
 abbrev pub head_in : List ℕ → Head
-head_in frame = record { hart = byte_in 3 frame; time = u64_in 4 frame; tag = u64_in 12 frame }
+head_in frame = record { hart = byte_at 3 frame; time = u64_at 4 frame; tag = u64_at 12 frame }
 
 -- the settings
 abbrev pub open_in : List ℕ → OpenInfo
 open_in frame = record {
-  version = byte_in 20 frame;
-  harts = byte_in 21 frame;
-  flags = byte_in 22 frame;
-  granule = byte_in 23 frame;
-  skew = u32_in 24 frame;
+  version = byte_at 20 frame;
+  harts = byte_at 21 frame;
+  flags = byte_at 22 frame;
+  granule = byte_at 23 frame;
+  skew = u32_at 24 frame;
 }
 
 -- what a Poke sets
 abbrev pub target_in : List ℕ → Target
 target_in frame =
-    if byte_in 20 frame == 0 then Pc
-    else if byte_in 20 frame == 1 then X (byte_in 22 frame)
-    else Csr (u16_in 22 frame)
+    if byte_at 20 frame == 0 then Pc
+    else if byte_at 20 frame == 1 then X (byte_at 22 frame)
+    else Csr (u16_at 22 frame)
 
 -- what a Poke sets, and its value
 abbrev pub poke_in : List ℕ → Poke
-poke_in frame = record { target = target_in frame; value = u64_in 24 frame }
+poke_in frame = record { target = target_in frame; value = u64_at 24 frame }
 
 -- the address, and all bytes behind the count
 abbrev pub piece_in : List ℕ → Piece
-piece_in frame = record { addr = u64_in 20 frame; bytes = drop 29 frame }
+piece_in frame = record { addr = u64_at 20 frame; bytes = drop 29 frame }
 
 -- the line, the mask and the bytes of the line
 abbrev pub write_in : List ℕ → LineWrite
-write_in frame = record { line = u64_in 20 frame; mask = u64_in 28 frame; bytes = take 64 (drop 36 frame) }
+write_in frame = record { line = u64_at 20 frame; mask = u64_at 28 frame; bytes = take 64 (drop 36 frame) }
 
 -- so many CSRs of ten bytes each
 abbrev pub csrs_in : ℕ → List ℕ → List CsrValue
 csrs_in zero bytes = []
-csrs_in (suc count) bytes = record { number = u16_in 0 bytes; value = u64_in 2 bytes } ∷ csrs_in count (drop 10 bytes)
+csrs_in (suc count) bytes = record { number = u16_at 0 bytes; value = u64_at 2 bytes } ∷ csrs_in count (drop 10 bytes)
 
 -- the cause of the trap that a Retire says it had
 abbrev pub trap_in : List ℕ → Option ℕ
-trap_in frame = if has_trap frame then Some (byte_in 41 frame) else None
+trap_in frame = if has_trap frame then Some (byte_at 41 frame) else None
 
 -- the register that a Retire says it wrote
 abbrev pub rd_in : List ℕ → Option RdValue
-rd_in frame = if has_rd frame then Some (record { number = byte_in 42 frame; value = u64_in 44 frame }) else None
+rd_in frame = if has_rd frame then Some (record { number = byte_at 42 frame; value = u64_at 44 frame }) else None
 
 -- a Retire, with the trap, the register and the CSRs that it says it has
 abbrev pub retire_in : List ℕ → Retire
 retire_in frame = record {
-  pc = u64_in 20 frame;
-  word = u32_in 28 frame;
-  next = u64_in 32 frame;
+  pc = u64_at 20 frame;
+  word = u32_at 28 frame;
+  next = u64_at 32 frame;
   trap = trap_in frame;
   rd = rd_in frame;
-  csrs = csrs_in (byte_in 43 frame) (drop 52 frame);
+  csrs = csrs_in (byte_at 43 frame) (drop 52 frame);
 }
 
 -- the fields of a kind
@@ -223,17 +224,17 @@ is_length length = nat_le 18 length && nat_le length 512
 
 -- as many bytes as its length says
 abbrev pub is_whole : List ℕ → Bool
-is_whole frame = nat_le 2 (length frame) && is_length (u16_in 0 frame) && length frame == u16_in 0 frame + 2
+is_whole frame = nat_le 2 (length frame) && is_length (u16_at 0 frame) && length frame == u16_at 0 frame + 2
 
 -- what a frame of this kind spells
 unfoldable pub reading_of : Option Kind → List ℕ → Result Message FrameFault
 reading_of None frame = Err (fault form.Kind 2)
 reading_of (Some kind) frame =
-    if has_length kind (u16_in 0 frame) then unless (field_fault kind frame) (message_in kind frame)
+    if has_length kind (u16_at 0 frame) then unless (field_fault kind frame) (message_in kind frame)
     else Err (fault form.Length 0)
 
 -- the message that the bytes spell, or how they break the form of a frame
 unfoldable pub reading : List ℕ → Result Message FrameFault
 reading frame =
-    if is_whole frame then reading_of (kind_coded (byte_in 2 frame)) frame
+    if is_whole frame then reading_of (kind_coded (byte_at 2 frame)) frame
     else Err (fault form.Length 0)

@@ -1,6 +1,6 @@
 -- What is taken from a source for one frame.
 use Rattle.std.specs.Prelude.{◌≡◌, ℕ, ◌<◌, nat_le, ◌&&◌, if◌then◌else◌, Bool, true, false, List, length, map}
-use Rattle.std.specs.Prelude.{Option, Ok, Err}
+use Rattle.std.specs.Prelude.{Option, Ok, Err, ⊤}
 use Rattle.std.specs.Io.KnownBytes.{Consumes, IsAtEnd}
 use Rattle.tandem_io.specs.Told.{Log, Logs, taken}
 use Rattle.msg_frames.specs.declared.source.Next.{Next}
@@ -20,41 +20,33 @@ pub record Took (left left' : Option (List ℕ)) (log log' : Log) (got : List �
   pub logged : Logs log log' (map taken got)
 
 -- just as many bytes as the frame that they begin needs
-abbrev pub IsWhole : List ℕ → Type 0
-IsWhole got = length got ≡ needed got
+abbrev pub IsWholeFrame : List ℕ → Type 0
+IsWholeFrame got = length got ≡ needed got
 
 -- fewer bytes than the frame that they begin needs
 abbrev pub IsShort : List ℕ → Type 0
 IsShort got = length got < needed got
 
--- what an answer says of the bytes that were taken, and of what is left
+-- what an answer says of the bytes that were taken, and of what is left of the source
 abbrev pub NextIs : Next → List ℕ → Option (List ℕ) → Type 0
-NextIs (next.Msg message) got left = IsWhole got × (reading got ≡ Ok message) × Spells got message
-NextIs (next.Bad fault) got left = IsWhole got × (reading got ≡ Err fault)
+NextIs (next.Msg message) got left = IsWholeFrame got × (reading got ≡ Ok message) × Spells got message
+NextIs (next.Bad fault) got left = IsWholeFrame got × (reading got ≡ Err fault)
 NextIs (next.Ended have) got left = IsShort got × (length got ≡ have) × IsAtEnd left
 NextIs next.Failed got left = IsShort got
 
--- what an answer says of a whole frame, and of the message that is lent: it is the one that the
--- frame spells, or stays
-abbrev pub FrameIs : Arrived → Message → Message → List ℕ → Type 0
-FrameIs arrived.Message old new frame = (reading frame ≡ Ok new) × Spells frame new
-FrameIs (arrived.Bad fault) old new frame = (reading frame ≡ Err fault) × (new ≡ old)
-FrameIs (arrived.Ended have) old new frame = ⊥
-FrameIs arrived.Failed old new frame = ⊥
+-- the same answer with the message that is lent, where the message came there
+abbrev pub with_message : Arrived → Message → Next
+with_message arrived.Message message = next.Msg message
+with_message (arrived.Bad fault) message = next.Bad fault
+with_message (arrived.Ended have) message = next.Ended have
+with_message arrived.Failed message = next.Failed
 
--- what an answer says of the bytes that were taken, of the message that is lent, and of what is left
-abbrev pub ArrivedIs : Arrived → Message → Message → List ℕ → Option (List ℕ) → Type 0
-ArrivedIs arrived.Message old new got left = IsWhole got × (reading got ≡ Ok new) × Spells got new
-ArrivedIs (arrived.Bad fault) old new got left = IsWhole got × (reading got ≡ Err fault) × (new ≡ old)
-ArrivedIs (arrived.Ended have) old new got left = IsShort got × (length got ≡ have) × IsAtEnd left × (new ≡ old)
-ArrivedIs arrived.Failed old new got left = IsShort got × (new ≡ old)
-
--- the answer that the source has ended
-abbrev pub has_arrived_end : Arrived → Bool
-has_arrived_end arrived.Message = false
-has_arrived_end (arrived.Bad _) = false
-has_arrived_end (arrived.Ended _) = true
-has_arrived_end arrived.Failed = false
+-- the message that is lent stays where none came
+abbrev pub IsKept : Arrived → Message → Message → Type 0
+IsKept arrived.Message old new = ⊤
+IsKept (arrived.Bad fault) old new = new ≡ old
+IsKept (arrived.Ended have) old new = new ≡ old
+IsKept arrived.Failed old new = new ≡ old
 
 -- how many bytes the frame has that lies whole at the front, and 0 where none does
 abbrev pub size_at_front : List ℕ → ℕ

@@ -8,9 +8,9 @@ ghost use Rattle.msg_frames.specs.Reading.{field_fault};
 ghost use Rattle.msg_frames.specs.Frames.{is_poked_csr};
 ghost use Rattle.msg_frames.specs.Kinds.{has_length};
 ghost use Rattle.tandem_base.specs.FirstFault.{passed};
-ghost use Rattle.msg_frames.specs.Fields.{u16_in};
+ghost use Rattle.tandem_base.specs.Fields.{u16_at};
 
-use super::fields::{u16_in, u64_in};
+use tandem_base::{u16_at, u64_at};
 use super::kinds::Kind;
 use super::message::{Form, FrameFault};
 use tandem_base::csrs::{MCAUSE, MEPC, MIE, MSCRATCH, MSTATUS, MTVAL, MTVEC};
@@ -104,13 +104,13 @@ fn check_target(target: u8, frame: &[u8]) -> Result<(), FrameFault>
     match target {
         0 => {
             reserved(22, 2, frame)?;
-            rule(Form::Field, 24, u64_in(24, frame) % 4 == 0)
+            rule(Form::Field, 24, u64_at(24, frame) % 4 == 0)
         }
         1 => {
-            let number = u16_in(22, frame);
+            let number = u16_at(22, frame);
             rule(Form::Field, 22, 1 <= number && number <= 31)
         }
-        _ => rule(Form::Field, 22, is_poked_csr(u16_in(22, frame))),
+        _ => rule(Form::Field, 22, is_poked_csr(u16_at(22, frame))),
     }
 }
 
@@ -133,7 +133,7 @@ fn check_piece(frame: &[u8]) -> Result<(), FrameFault>
     rule(
         Form::Field,
         28,
-        27 + u16::from(frame[28]) == u16_in(0, frame),
+        27 + u16::from(frame[28]) == u16_at(0, frame),
     )
 }
 
@@ -143,8 +143,8 @@ fn check_write(frame: &[u8]) -> Result<(), FrameFault>
     ensures { result ≡ passed (write_fault frame.now) }
 {
     reserved(12, 8, frame)?;
-    rule(Form::Field, 20, u64_in(20, frame) % 64 == 0)?;
-    unmasked_zeros(u64_in(28, frame), &frame[36..100])
+    rule(Form::Field, 20, u64_at(20, frame) % 64 == 0)?;
+    unmasked_zeros(u64_at(28, frame), &frame[36..100])
 }
 
 /// Whether a Retire says that it trapped.
@@ -217,7 +217,7 @@ fn check_retire(frame: &[u8]) -> Result<(), FrameFault>
     rule(
         Form::Field,
         43,
-        50 + 10 * u16::from(frame[43]) == u16_in(0, frame),
+        50 + 10 * u16::from(frame[43]) == u16_at(0, frame),
     )?;
     check_value(frame)
 }
@@ -233,8 +233,8 @@ fn check_end(frame: &[u8]) -> Result<(), FrameFault>
 
 /// The first fault of the fields.
 pub fn check_fields(kind: Kind, frame: &[u8]) -> Result<(), FrameFault>
-    requires whole { length frame.now ≡ u16_in 0 frame.now + 2 }
-    requires kind { has_length kind (u16_in 0 frame.now) ≡ true }
+    requires whole { length frame.now ≡ u16_at 0 frame.now + 2 }
+    requires kind { has_length kind (u16_at 0 frame.now) ≡ true }
     ensures { result ≡ passed (field_fault kind frame.now) }
 {
     match kind {

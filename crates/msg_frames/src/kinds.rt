@@ -8,14 +8,23 @@ use super::message::Body;
 /// The kinds of frames, by which their fields differ.
 #[derive(Clone, Copy)]
 pub enum Kind {
+    /// The first message of a stream.
     Open,
+    /// A value set before a hart's first Retire.
     Poke,
+    /// A part of a load was performed.
     Read,
+    /// A store went into the merge buffer.
     Insert,
+    /// A line of the merge buffer became visible to all.
     Write,
+    /// A store became visible to all by itself.
     Bypass,
+    /// An instruction retired.
     Retire,
+    /// The instruction of the tag does not retire.
     Squash,
+    /// The last message of a stream.
     End,
 }
 

@@ -5,7 +5,6 @@ mod checks;
 mod codec;
 mod csrs;
 mod encoding;
-mod fields;
 mod kinds;
 mod laws;
 mod list;

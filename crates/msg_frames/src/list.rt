@@ -48,13 +48,6 @@ impl MessageList {
         self.items.len()
     }
 
-    /// All of them, in their order.
-    pub fn as_slice(&self) -> &[Message]
-        ensures { result.now ≡ self.now }
-    {
-        self.items.as_slice()
-    }
-
     /// Message `k`, counted from 0. None exactly where `k` isn't below the length.
     pub fn get(&self, k: usize) -> Option<&Message>
         ensures { option_copied result ≡ slice_get self.now k }

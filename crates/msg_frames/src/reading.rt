@@ -2,7 +2,7 @@
 
 ghost use Rattle.std.specs.Prelude.{◌≡◌, ◌+◌, ◌*◌, ◌≤◌, length, true, take, drop};
 ghost use Rattle.std.specs.Prelude.{None, Ok, Err, OnOk, OnErr, IfOk, IfErr};
-ghost use Rattle.msg_frames.specs.Fields.{u16_in, byte_in};
+ghost use Rattle.tandem_base.specs.Fields.{u16_at, byte_at};
 ghost use Rattle.msg_frames.specs.Kinds.{has_length};
 ghost use Rattle.msg_frames.specs.Reading.{head_in, open_in, target_in, poke_in, piece_in, write_in, csrs_in};
 ghost use Rattle.msg_frames.specs.Reading.{trap_in, rd_in, retire_in, body_in, message_in, field_fault};
@@ -10,7 +10,7 @@ ghost use Rattle.msg_frames.specs.Reading.{is_length, is_whole, reading};
 
 use super::checks::{check_fields, fault, has_rd, has_trap};
 use super::csrs::{CsrList, CsrValue};
-use super::fields::{u16_in, u32_in, u64_in};
+use tandem_base::{u16_at, u32_at, u64_at};
 use super::kinds::{Kind, kind_coded};
 use super::message::{
     Body, Form, FrameFault, Head, LineWrite, Message, OpenInfo, Piece, Poke, RdValue, Retire,
@@ -24,8 +24,8 @@ fn head_in(frame: &[u8]) -> Head
 {
     Head {
         hart: frame[3],
-        time: u64_in(4, frame),
-        tag: u64_in(12, frame),
+        time: u64_at(4, frame),
+        tag: u64_at(12, frame),
     }
 }
 
@@ -38,7 +38,7 @@ fn open_in(frame: &[u8]) -> OpenInfo
         harts: frame[21],
         flags: frame[22],
         granule: frame[23],
-        skew: u32_in(24, frame),
+        skew: u32_at(24, frame),
     }
 }
 
@@ -49,11 +49,11 @@ fn poke_in(frame: &[u8]) -> Poke
     let target = match frame[20] {
         0 => Target::Pc,
         1 => Target::X(frame[22]),
-        _ => Target::Csr(u16_in(22, frame)),
+        _ => Target::Csr(u16_at(22, frame)),
     };
     Poke {
         target,
-        value: u64_in(24, frame),
+        value: u64_at(24, frame),
     }
 }
 
@@ -67,7 +67,7 @@ fn piece_in(frame: &[u8]) -> Piece
         unreachable!()
     };
     Piece {
-        addr: u64_in(20, frame),
+        addr: u64_at(20, frame),
         bytes,
     }
 }
@@ -79,8 +79,8 @@ fn write_in(frame: &[u8]) -> LineWrite
     let mut bytes = [0; 64];
     bytes.copy_from_slice(&frame[36..100]);
     LineWrite {
-        line: u64_in(20, frame),
-        mask: u64_in(28, frame),
+        line: u64_at(20, frame),
+        mask: u64_at(28, frame),
         bytes,
     }
 }
@@ -95,8 +95,8 @@ fn csrs_into(count: u8, bytes: &[u8], list: &mut CsrList)
     let mut rest = bytes;
     for _ in 0..count {
         list.push(CsrValue {
-            number: u16_in(0, rest),
-            value: u64_in(2, rest),
+            number: u16_at(0, rest),
+            value: u64_at(2, rest),
         });
         rest = rest.split_at(10).1;
     }
@@ -122,7 +122,7 @@ fn rd_in(frame: &[u8]) -> Option<RdValue>
     if has_rd(frame) {
         Some(RdValue {
             number: frame[42],
-            value: u64_in(44, frame),
+            value: u64_at(44, frame),
         })
     } else {
         None
@@ -131,13 +131,13 @@ fn rd_in(frame: &[u8]) -> Option<RdValue>
 
 /// Overwrites a Retire by that of a frame.
 fn retire_into(frame: &[u8], retire: &mut Retire)
-    requires few { byte_in 43 frame.now ≤ 4 }
-    requires whole { 52 + 10 * byte_in 43 frame.now ≤ length frame.now }
+    requires few { byte_at 43 frame.now ≤ 4 }
+    requires whole { 52 + 10 * byte_at 43 frame.now ≤ length frame.now }
     ensures { retire.new ≡ retire_in frame.now }
 {
-    retire.pc = u64_in(20, frame);
-    retire.word = u32_in(28, frame);
-    retire.next = u64_in(32, frame);
+    retire.pc = u64_at(20, frame);
+    retire.word = u32_at(28, frame);
+    retire.next = u64_at(32, frame);
     retire.trap = trap_in(frame);
     retire.rd = rd_in(frame);
     csrs_into(frame[43], frame.split_at(52).1, &mut retire.csrs);
@@ -145,8 +145,8 @@ fn retire_into(frame: &[u8], retire: &mut Retire)
 
 /// Makes a body the Retire of a frame. One that is a Retire already is overwritten where it lies.
 fn retire_body(frame: &[u8], body: &mut Body)
-    requires few { byte_in 43 frame.now ≤ 4 }
-    requires whole { 52 + 10 * byte_in 43 frame.now ≤ length frame.now }
+    requires few { byte_at 43 frame.now ≤ 4 }
+    requires whole { 52 + 10 * byte_at 43 frame.now ≤ length frame.now }
     ensures { body.new ≡ Body.Retire (retire_in frame.now) }
 {
     if let Body::Retire(retire) = body {
@@ -160,8 +160,8 @@ fn retire_body(frame: &[u8], body: &mut Body)
 
 /// Makes a body that of a frame whose fields keep their rules.
 fn body_into(kind: Kind, frame: &[u8], body: &mut Body)
-    requires whole { length frame.now ≡ u16_in 0 frame.now + 2 }
-    requires kind { has_length kind (u16_in 0 frame.now) ≡ true }
+    requires whole { length frame.now ≡ u16_at 0 frame.now + 2 }
+    requires kind { has_length kind (u16_at 0 frame.now) ≡ true }
     requires checked { field_fault kind frame.now ≡ None }
     ensures { body.new ≡ body_in kind frame.now }
 {
@@ -192,7 +192,7 @@ fn is_whole(frame: &[u8]) -> bool
     if frame.len() < 2 {
         return false;
     }
-    let length = u16_in(0, frame);
+    let length = u16_at(0, frame);
     is_length(length) && frame.len() == usize::from(length) + 2
 }
 
@@ -200,9 +200,9 @@ fn is_whole(frame: &[u8]) -> bool
 #[tactic(auto, unfolding(crate::specs::Reading::reading, crate::specs::Reading::reading_of))]
 fn kind_in(frame: &[u8]) -> Result<Kind, FrameFault>
     ensures read { IfOk result (λ kind. reading frame.now ≡ Ok (message_in kind frame.now)) }
-    ensures whole { OnOk result (length frame.now ≡ u16_in 0 frame.now + 2) }
+    ensures whole { OnOk result (length frame.now ≡ u16_at 0 frame.now + 2) }
     ensures low { OnOk result (20 ≤ length frame.now) }
-    ensures kind { IfOk result (λ kind. has_length kind (u16_in 0 frame.now) ≡ true) }
+    ensures kind { IfOk result (λ kind. has_length kind (u16_at 0 frame.now) ≡ true) }
     ensures checked { IfOk result (λ kind. field_fault kind frame.now ≡ None) }
     ensures fault { IfErr result (λ fault. reading frame.now ≡ Err fault) }
 {
@@ -212,7 +212,7 @@ fn kind_in(frame: &[u8]) -> Result<Kind, FrameFault>
     let Some(kind) = kind_coded(frame[2]) else {
         return Err(fault(Form::Kind, 2));
     };
-    if !kind.has_length(u16_in(0, frame)) {
+    if !kind.has_length(u16_at(0, frame)) {
         return Err(fault(Form::Length, 0));
     }
     check_fields(kind, frame)?;

@@ -1,7 +1,8 @@
 //! The rules that the fields of a message keep.
 
 ghost use Rattle.std.specs.Prelude.{◌≡◌, ◌<◌, ◌↔◌, ℕ, IsTrue, length, slice_index};
-ghost use Rattle.msg_frames.specs.Frames.{mask_bit, FitsOpen, FitsTarget, FitsWrite, FitsRetire, FitsPiece};
+ghost use Rattle.std.specs.Int.{bit_at};
+ghost use Rattle.msg_frames.specs.Frames.{FitsOpen, FitsTarget, FitsWrite, FitsRetire, FitsPiece};
 ghost use Rattle.msg_frames.specs.Frames.{FitsBody, Fits};
 
 use super::checks::{is_poked_csr, unmasked_zeros};
@@ -65,7 +66,7 @@ fn write_fits(write: &LineWrite) -> bool
 /// Whether the bytes of a line are 0 outside the mask.
 fn is_masked(mask: u64, bytes: &[u8]) -> bool
     requires { length bytes.now ≡ 64 }
-    ensures { IsTrue result ↔ ((k : ℕ) → k < 64 → mask_bit mask k ≡ 0 → slice_index bytes.now k ≡ 0) }
+    ensures { IsTrue result ↔ ((k : ℕ) → k < 64 → bit_at mask k ≡ 0 → slice_index bytes.now k ≡ 0) }
 {
     unmasked_zeros(mask, bytes).is_ok()
 }

@@ -1,15 +1,14 @@
 //! How frames are taken from a source.
 
-ghost use Rattle.std.specs.Prelude.{◌≡◌, ◌<◌, ◌≤◌, ℕ, List, length};
+ghost use Rattle.std.specs.Prelude.{◌≡◌, ◌<◌, ◌≤◌, ℕ, List, Option, false, length};
 ghost use Rattle.tandem_io.specs.Causes.{Rose};
-ghost use Rattle.msg_frames.specs.Taking.{Took, NextIs, is_ended, ArrivedIs, FrameIs, has_arrived_end, FilledIs};
-ghost use Rattle.msg_frames.specs.Taking.{has_ended};
-ghost use Rattle.msg_frames.specs.Taking.{size_at_front};
+ghost use Rattle.msg_frames.specs.Taking.{Took, NextIs, is_ended, with_message, IsKept, IsWholeFrame, FilledIs};
+ghost use Rattle.msg_frames.specs.Taking.{has_ended, size_at_front};
 ghost use Rattle.msg_frames.specs.Reading.{is_length};
 
 use super::checks::fault;
 use super::codec::decode_into;
-use super::fields::u16_in;
+use tandem_base::u16_at;
 use super::message::{Form, FrameFault, Message};
 use super::reading::is_length;
 use tandem_io::{Failed, Source};
@@ -45,8 +44,11 @@ pub enum Arrived {
 /// What came of filling a buffer.
 #[derive(Clone, Copy)]
 pub enum Filled {
+    /// The buffer is full.
     Whole,
+    /// The source ended with so many bytes in it.
     Ended(usize),
+    /// The source failed.
     Failed,
 }
 
@@ -75,7 +77,11 @@ fn fill<S: Source>(src: &mut S, buf: &mut [u8]) -> Filled
 
 /// Reads a whole frame, and answers what that is.
 fn read_frame(frame: &[u8], message: &mut Message) -> Arrived
-    ensures { FrameIs result message.old message.new frame.now }
+    requires { IsWholeFrame frame.now }
+    ensures next { (left : Option (List ℕ)) → NextIs (with_message result message.new) frame.now left }
+    ensures kept { IsKept result message.old message.new }
+    ensures goes_on { is_ended (with_message result message.new) ≡ false }
+    ensures fine { result ≡ Arrived.Failed → ⊥ }
 {
     match decode_into(frame, message) {
         Ok(()) => Arrived::Message,
@@ -88,8 +94,9 @@ fn take_by_buffer<S: Source>(src: &mut S, buf: &mut [u8], message: &mut Message)
     requires { length buf.old ≡ 514 }
     ensures taken { (got : List ℕ)
         × Took (S.left src.old) (S.left src.new) (S.log src.old) (S.log src.new) got
-        × ArrivedIs result message.old message.new got (S.left src.new) }
-    ensures ended { S.ended src.new ≡ has_arrived_end result }
+        × NextIs (with_message result message.new) got (S.left src.new) }
+    ensures kept { IsKept result message.old message.new }
+    ensures ended { S.ended src.new ≡ is_ended (with_message result message.new) }
     ensures count { S.faults src.old ≤ S.faults src.new }
     ensures cause { result ≡ Arrived.Failed → Rose (S.faults src.old) (S.faults src.new) }
     ensures opened { S.is_open src.new ≡ S.is_open src.old }
@@ -100,7 +107,7 @@ fn take_by_buffer<S: Source>(src: &mut S, buf: &mut [u8], message: &mut Message)
         Filled::Ended(have) => return Arrived::Ended(have as u16),
         Filled::Failed => return Arrived::Failed,
     }
-    let length = u16_in(0, buf);
+    let length = u16_at(0, buf);
     if !is_length(length) {
         return Arrived::Bad(fault(Form::Length, 0));
     }
@@ -120,7 +127,7 @@ fn size_at_front(bytes: &[u8]) -> usize
     if bytes.len() < 2 {
         return 0;
     }
-    let length = u16_in(0, bytes);
+    let length = u16_at(0, bytes);
     let size = usize::from(length) + 2;
     if is_length(length) && size <= bytes.len() {
         size
@@ -137,8 +144,9 @@ pub fn next_message_into<S: Source>(src: &mut S, buf: &mut [u8], message: &mut M
     requires { length buf.old ≡ 514 }
     ensures taken { (got : List ℕ)
         × Took (S.left src.old) (S.left src.new) (S.log src.old) (S.log src.new) got
-        × ArrivedIs result message.old message.new got (S.left src.new) }
-    ensures ended { S.ended src.new ≡ has_arrived_end result }
+        × NextIs (with_message result message.new) got (S.left src.new) }
+    ensures kept { IsKept result message.old message.new }
+    ensures ended { S.ended src.new ≡ is_ended (with_message result message.new) }
     ensures count { S.faults src.old ≤ S.faults src.new }
     ensures cause { result ≡ Arrived.Failed → Rose (S.faults src.old) (S.faults src.new) }
     ensures opened { S.is_open src.new ≡ S.is_open src.old }

@@ -270,7 +270,7 @@ fn listed(alloc: Global, frame: &[u8]) -> Result<Option<(usize, u64)>, AllocErro
     streams_are_cut_frame_by_frame();
     Ok(
         list.get(0)
-            .map(|message| (list.as_slice().len(), message.head.tag)),
+            .map(|message| (list.len(), message.head.tag)),
     )
 }
 

@@ -2,15 +2,16 @@
 use Rattle.std.proofs.Common.{◌≡◌, ◌↔◌, ◌∙◌, ℕ, ◌+◌, ◌*◌, ◌/◌, ◌%◌, ◌^◌, ◌<◌, ℤ, pos, negsuc, Bool, true, false, Option}
 use Rattle.std.proofs.Common.{None, Some, IfNone, refl, ap, inl, inr, arith}
 use Rattle.std.specs.Prelude.{◌==◌}
-use Rattle.rv_decode.specs.Formats.{part, field, bit, IsSigned, IsMultiple}
+use Rattle.tandem_base.specs.Signs.{represents}
+use Rattle.rv_decode.specs.Formats.{part, twos_complement, bit_of, IsSigned, IsMultiple}
 use Rattle.rv_decode.specs.Operations.{row, reg_row, branch_funct3, load_funct3, store_funct3, csr_funct3, amo_funct5}
 use Rattle.rv_decode.specs.Operations.{atomic_funct3}
 use Rattle.rv_decode.specs.Listing.{Encodes}
-use Rattle.rv_decode.specs.Decoding.{decoding, signed, rd_of, funct3_of, rs1_of, rs2_of, funct7_of, funct6_of}
-use Rattle.rv_decode.specs.Decoding.{aq_of, rl_of, i_imm, s_imm, b_imm, u_imm, j_imm, jalr_of, branch_of}
-use Rattle.rv_decode.specs.Decoding.{load_of, store_of, alu_imm_of, alu_imm_word_of, alu_reg_of, fence_of}
-use Rattle.rv_decode.specs.Decoding.{branch_at, load_at, store_at, csr_at, amo_at, width_at, reg_at, system_of}
-use Rattle.rv_decode.specs.Decoding.{atomic_with, atomic_of}
+use Rattle.rv_decode.specs.Decoding.{decoding, rd_field, funct3_field, rs1_field, rs2_field, funct7_field, funct6_field}
+use Rattle.rv_decode.specs.Decoding.{aq_bit, rl_bit, i_imm, s_imm, b_imm, u_imm, j_imm, as_jalr, as_branch}
+use Rattle.rv_decode.specs.Decoding.{as_load, as_store, as_alu_imm, as_alu_imm_word, as_alu, as_fence}
+use Rattle.rv_decode.specs.Decoding.{branch_at, load_at, store_at, csr_at, amo_at, width_at, reg_at, as_system}
+use Rattle.rv_decode.specs.Decoding.{as_atomic_of, as_atomic}
 use Rattle.rv_decode.specs.declared.operations.BranchOp.{BranchOp}
 use Rattle.rv_decode.specs.declared.operations.BranchOp.TheVariants as branch
 use Rattle.rv_decode.specs.declared.operations.LoadOp.{LoadOp}
@@ -29,7 +30,7 @@ use Rattle.rv_decode.specs.declared.instruction.Insn.{Insn}
 use Rattle.rv_decode.specs.declared.instruction.Insn.TheVariants.{Lui, Auipc, Jal, Jalr, Branch, Load, Store, AluImm}
 use Rattle.rv_decode.specs.declared.instruction.Insn.TheVariants.{Alu, Fence, Ecall, Ebreak, Mret, Wfi, Csr, Lr, Sc}
 use Rattle.rv_decode.specs.declared.instruction.Insn.TheVariants.{Amo}
-use Rattle.rv_decode.proofs.TwosComplement.{signed_field, field_lt}
+use Rattle.rv_decode.proofs.TwosComplement.{number_again, bits_lt}
 use Rattle.std.proofs.lemmas.Bool.{ne_eqb}
 use Rattle.rv_decode.proofs.Found.{decoding_found}
 use Rattle.rv_decode.proofs.Opcodes.{reg_opcode}
@@ -69,7 +70,7 @@ reg_at-row : (op : RegOp) → reg_at (row (reg_row op).funct7 (reg_row op).funct
 reg_at-row reg.Add = refl
 reg_at-row _ = refl
 
-bit_is : (b : Bool) → (bit b == 1) ≡ b
+bit_is : (b : Bool) → (bit_of b == 1) ≡ b
 bit_is false = refl
 bit_is true = refl
 
@@ -97,72 +98,75 @@ fields w f7 y x f3 d o h7 hy hx h3 hd ho e = record {
 
 module _ (w : ℕ) where
   -- the words of each opcode
-  at_lui : part w 6 0 ≡ 0b0110111 → decoding w ≡ Some (Lui (rd_of w) (u_imm w))
+  at_lui : part w 6 0 ≡ 0b0110111 → decoding w ≡ Some (Lui (rd_field w) (u_imm w))
   unfolding decoding
   at_lui o = rw o refl
 
-  at_auipc : part w 6 0 ≡ 0b0010111 → decoding w ≡ Some (Auipc (rd_of w) (u_imm w))
+  at_auipc : part w 6 0 ≡ 0b0010111 → decoding w ≡ Some (Auipc (rd_field w) (u_imm w))
   unfolding decoding
   at_auipc o = rw o refl
 
-  at_jal : part w 6 0 ≡ 0b1101111 → decoding w ≡ Some (Jal (rd_of w) (j_imm w))
+  at_jal : part w 6 0 ≡ 0b1101111 → decoding w ≡ Some (Jal (rd_field w) (j_imm w))
   unfolding decoding
   at_jal o = rw o refl
 
-  at_jalr : part w 6 0 ≡ 0b1100111 → decoding w ≡ jalr_of w
+  at_jalr : part w 6 0 ≡ 0b1100111 → decoding w ≡ as_jalr w
   unfolding decoding
   at_jalr o = rw o refl
 
-  at_branch : part w 6 0 ≡ 0b1100011 → decoding w ≡ branch_of w
+  at_branch : part w 6 0 ≡ 0b1100011 → decoding w ≡ as_branch w
   unfolding decoding
   at_branch o = rw o refl
 
-  at_load : part w 6 0 ≡ 0b0000011 → decoding w ≡ load_of w
+  at_load : part w 6 0 ≡ 0b0000011 → decoding w ≡ as_load w
   unfolding decoding
   at_load o = rw o refl
 
-  at_store : part w 6 0 ≡ 0b0100011 → decoding w ≡ store_of w
+  at_store : part w 6 0 ≡ 0b0100011 → decoding w ≡ as_store w
   unfolding decoding
   at_store o = rw o refl
 
-  at_alu_imm : part w 6 0 ≡ 0b0010011 → decoding w ≡ alu_imm_of w
+  at_alu_imm : part w 6 0 ≡ 0b0010011 → decoding w ≡ as_alu_imm w
   unfolding decoding
   at_alu_imm o = rw o refl
 
-  at_alu_imm_word : part w 6 0 ≡ 0b0011011 → decoding w ≡ alu_imm_word_of w
+  at_alu_imm_word : part w 6 0 ≡ 0b0011011 → decoding w ≡ as_alu_imm_word w
   unfolding decoding
   at_alu_imm_word o = rw o refl
 
-  at_alu : part w 6 0 ≡ 0b0110011 → decoding w ≡ alu_reg_of 0b0110011 w
+  at_alu : part w 6 0 ≡ 0b0110011 → decoding w ≡ as_alu 0b0110011 w
   unfolding decoding
   at_alu o = rw o refl
 
-  at_alu_word : part w 6 0 ≡ 0b0111011 → decoding w ≡ alu_reg_of 0b0111011 w
+  at_alu_word : part w 6 0 ≡ 0b0111011 → decoding w ≡ as_alu 0b0111011 w
   unfolding decoding
   at_alu_word o = rw o refl
 
-  at_fence : part w 6 0 ≡ 0b0001111 → decoding w ≡ fence_of w
+  at_fence : part w 6 0 ≡ 0b0001111 → decoding w ≡ as_fence w
   unfolding decoding
   at_fence o = rw o refl
 
-  at_system : part w 6 0 ≡ 0b1110011 → decoding w ≡ system_of w
+  at_system : part w 6 0 ≡ 0b1110011 → decoding w ≡ as_system w
   unfolding decoding
   at_system o = rw o refl
 
-  at_atomic : part w 6 0 ≡ 0b0101111 → decoding w ≡ atomic_of w
+  at_atomic : part w 6 0 ≡ 0b0101111 → decoding w ≡ as_atomic w
   unfolding decoding
   at_atomic o = rw o refl
 
   -- an immediate of 12 bits
-  i_imm-is : (imm : ℤ) → IsSigned 12 imm → part w 31 20 ≡ part (field 12 imm) 11 0 → i_imm w ≡ imm
+  i_imm-is : (imm : ℤ) → IsSigned 12 imm → part w 31 20 ≡ part (twos_complement 12 imm) 11 0 → i_imm w ≡ imm
   i_imm-is imm fits e =
-      ap (signed 12) (e ∙ (let lt = field_lt 12 imm refl fits in omega arith)) ∙ signed_field 12 imm refl fits
+      let n = twos_complement 12 imm in
+      let lt = bits_lt 12 imm refl fits in
+      let whole : part w 31 20 ≡ n = e ∙ omega arith in
+      ap (represents 12) whole ∙ number_again 12 imm refl fits
 
   only_load : (op : LoadOp) (rd rs1 : ℕ) (imm : ℤ) → Encodes w (Load op rd rs1 imm)
       → decoding w ≡ Some (Load op rd rs1 imm)
   only_load op rd rs1 imm e =
-      let n = field 12 imm in
-      let lt = field_lt 12 imm refl e.fits.2 in
+      let n = twos_complement 12 imm in
+      let lt = bits_lt 12 imm refl e.fits.2 in
       let f : Fields w (n / 2 ^ 5) (n % 2 ^ 5) rs1 (load_funct3 op) rd 0b0000011 =
       fields w (n / 2 ^ 5) (n % 2 ^ 5) rs1 (load_funct3 op) rd 0b0000011 (omega arith) (omega arith) e.fits.1
       (load_funct3-lt op) e.fits.0 (omega arith) (e.is ∙ omega arith) in
@@ -171,8 +175,8 @@ module _ (w : ℕ) where
 
   only_jalr : (rd rs1 : ℕ) (imm : ℤ) → Encodes w (Jalr rd rs1 imm) → decoding w ≡ Some (Jalr rd rs1 imm)
   only_jalr rd rs1 imm e =
-      let n = field 12 imm in
-      let lt = field_lt 12 imm refl e.fits.2 in
+      let n = twos_complement 12 imm in
+      let lt = bits_lt 12 imm refl e.fits.2 in
       let f : Fields w (n / 2 ^ 5) (n % 2 ^ 5) rs1 0b000 rd 0b1100111 =
       fields w (n / 2 ^ 5) (n % 2 ^ 5) rs1 0b000 rd 0b1100111 (omega arith) (omega arith) e.fits.1 (omega arith)
       e.fits.0 (omega arith) (e.is ∙ omega arith) in
@@ -182,20 +186,20 @@ module _ (w : ℕ) where
   only_store : (op : StoreOp) (rs1 rs2 : ℕ) (imm : ℤ) → Encodes w (Store op rs1 rs2 imm)
       → decoding w ≡ Some (Store op rs1 rs2 imm)
   only_store op rs1 rs2 imm e =
-      let n = field 12 imm in
-      let lt = field_lt 12 imm refl e.fits.2 in
+      let n = twos_complement 12 imm in
+      let lt = bits_lt 12 imm refl e.fits.2 in
       let f : Fields w (n / 2 ^ 5) rs2 rs1 (store_funct3 op) (n % 2 ^ 5) 0b0100011 =
       fields w (n / 2 ^ 5) rs2 rs1 (store_funct3 op) (n % 2 ^ 5) 0b0100011 (omega arith) e.fits.1 e.fits.0
       (store_funct3-lt op) (omega arith) (omega arith) (e.is ∙ omega arith) in
-      let i : s_imm w ≡ imm =
-      ap (signed 12) (rw (f.funct7, f.rd) (omega arith)) ∙ signed_field 12 imm refl e.fits.2 in
+      let whole : part w 31 25 * 2 ^ 5 + part w 11 7 ≡ n = rw (f.funct7, f.rd) (omega arith) in
+      let i : s_imm w ≡ imm = ap (represents 12) whole ∙ number_again 12 imm refl e.fits.2 in
       at_store f.opcode ∙ rw (f.funct3, store_at-funct3 op, f.rs1, f.rs2, i) refl
 
   only_branch : (op : BranchOp) (rs1 rs2 : ℕ) (imm : ℤ) → Encodes w (Branch op rs1 rs2 imm)
       → decoding w ≡ Some (Branch op rs1 rs2 imm)
   only_branch op rs1 rs2 imm e =
-      let n = field 13 imm in
-      let lt = field_lt 13 imm refl e.fits.2.range in
+      let n = twos_complement 13 imm in
+      let lt = bits_lt 13 imm refl e.fits.2.range in
       let even = e.fits.2.low in
       let high = part n 12 12 * 2 ^ 6 + part n 10 5 in
       let low = part n 4 1 * 2 + part n 11 11 in
@@ -206,8 +210,9 @@ module _ (w : ℕ) where
       let b : part w 30 25 ≡ part n 10 5 = let h = f.funct7 in omega arith in
       let c : part w 11 8 ≡ part n 4 1 = let h = f.rd in omega arith in
       let d : part w 7 7 ≡ part n 11 11 = let h = f.rd in omega arith in
-      let i : b_imm w ≡ imm =
-      ap (signed 13) (rw (a, b, c, d) (omega arith)) ∙ signed_field 13 imm refl e.fits.2.range in
+      let whole : part w 31 31 * 2 ^ 12 + part w 7 7 * 2 ^ 11 + part w 30 25 * 2 ^ 5 + part w 11 8 * 2 ≡ n =
+      rw (a, b, c, d) (omega arith) in
+      let i : b_imm w ≡ imm = ap (represents 13) whole ∙ number_again 13 imm refl e.fits.2.range in
       at_branch f.opcode ∙ rw (f.funct3, branch_at-funct3 op, f.rs1, f.rs2, i) refl
 
   only_alu : (op : RegOp) (rd rs1 rs2 : ℕ) → Encodes w (Alu op rd rs1 rs2) → decoding w ≡ Some (Alu op rd rs1 rs2)
@@ -216,7 +221,7 @@ module _ (w : ℕ) where
       let f : Fields w (reg_row op).funct7 rs2 rs1 (reg_row op).funct3 rd (reg_row op).opcode =
       fields w (reg_row op).funct7 rs2 rs1 (reg_row op).funct3 rd (reg_row op).opcode lt.0 e.fits.2 e.fits.1 lt.1
       e.fits.0 lt.2 e.is in
-      let read : alu_reg_of (reg_row op).opcode w ≡ Some (Alu op rd rs1 rs2) =
+      let read : as_alu (reg_row op).opcode w ≡ Some (Alu op rd rs1 rs2) =
       rw (f.funct7, f.funct3, reg_at-row op, f.rd, f.rs1, f.rs2) refl in
       elim (reg_opcode op) [
         | inl o ↦ at_alu (f.opcode ∙ o) ∙ rw o at read
@@ -249,19 +254,19 @@ module _ (w : ℕ) where
 
   -- an operation on an immediate of 12 bits
   imm_fields : (imm : ℤ) (rs1 f3 rd o : ℕ) → IsSigned 12 imm → rs1 < 2 ^ 5 → f3 < 2 ^ 3 → rd < 2 ^ 5 → o < 2 ^ 7
-      → w ≡ part (field 12 imm) 11 0 * 2 ^ 20 + rs1 * 2 ^ 15 + f3 * 2 ^ 12 + rd * 2 ^ 7 + o
-      → Upper (field 12 imm) rs1 f3 rd o
+      → w ≡ part (twos_complement 12 imm) 11 0 * 2 ^ 20 + rs1 * 2 ^ 15 + f3 * 2 ^ 12 + rd * 2 ^ 7 + o
+      → Upper (twos_complement 12 imm) rs1 f3 rd o
   imm_fields imm rs1 f3 rd o fits h1 h3 hd ho e =
-      let lt = field_lt 12 imm refl fits in
-      upper_fields (field 12 imm) rs1 f3 rd o lt h1 h3 hd ho (e ∙ omega arith)
+      let lt = bits_lt 12 imm refl fits in
+      upper_fields (twos_complement 12 imm) rs1 f3 rd o lt h1 h3 hd ho (e ∙ omega arith)
 
-  imm_is : (imm : ℤ) (rs1 f3 rd o : ℕ) → IsSigned 12 imm → Upper (field 12 imm) rs1 f3 rd o → i_imm w ≡ imm
-  imm_is imm rs1 f3 rd o fits f = ap (signed 12) f.upper ∙ signed_field 12 imm refl fits
+  imm_is : (imm : ℤ) (rs1 f3 rd o : ℕ) → IsSigned 12 imm → Upper (twos_complement 12 imm) rs1 f3 rd o → i_imm w ≡ imm
+  imm_is imm rs1 f3 rd o fits f = ap (represents 12) f.upper ∙ number_again 12 imm refl fits
 
   -- an operation on 64 bits and an immediate of 12 bits
   only_plain_imm : (op : ImmOp) (f3 rd rs1 : ℕ) (imm : ℤ) → rd < 2 ^ 5 → rs1 < 2 ^ 5 → f3 < 2 ^ 3 → IsSigned 12 imm
-      → w ≡ part (field 12 imm) 11 0 * 2 ^ 20 + rs1 * 2 ^ 15 + f3 * 2 ^ 12 + rd * 2 ^ 7 + 0b0010011
-      → (funct3_of w ≡ f3 → alu_imm_of w ≡ Some (AluImm op (rd_of w) (rs1_of w) (i_imm w)))
+      → w ≡ part (twos_complement 12 imm) 11 0 * 2 ^ 20 + rs1 * 2 ^ 15 + f3 * 2 ^ 12 + rd * 2 ^ 7 + 0b0010011
+      → (funct3_field w ≡ f3 → as_alu_imm w ≡ Some (AluImm op (rd_field w) (rs1_field w) (i_imm w)))
       → decoding w ≡ Some (AluImm op rd rs1 imm)
   only_plain_imm op f3 rd rs1 imm hd h1 h3 fits e read =
       let f = imm_fields imm rs1 f3 rd 0b0010011 fits h1 h3 hd (omega arith) e in
@@ -271,8 +276,8 @@ module _ (w : ℕ) where
   -- a shift on 64 bits
   only_shift : (op : ImmOp) (f6 f3 rd rs1 n : ℕ) → rd < 2 ^ 5 → rs1 < 2 ^ 5 → f3 < 2 ^ 3 → f6 < 2 ^ 6 → n < 2 ^ 6
       → w ≡ f6 * 2 ^ 26 + n * 2 ^ 20 + rs1 * 2 ^ 15 + f3 * 2 ^ 12 + rd * 2 ^ 7 + 0b0010011
-      → (funct3_of w ≡ f3 → funct6_of w ≡ f6 → alu_imm_of w ≡ Some
-      (AluImm op (rd_of w) (rs1_of w) (pos (part w 25 20))))
+      → (funct3_field w ≡ f3 → funct6_field w ≡ f6 → as_alu_imm w ≡ Some
+      (AluImm op (rd_field w) (rs1_field w) (pos (part w 25 20))))
       → decoding w ≡ Some (AluImm op rd rs1 (pos n))
   only_shift op f6 f3 rd rs1 n hd h1 h3 h6 hn e read =
       let f : Upper (f6 * 2 ^ 6 + n) rs1 f3 rd 0b0010011 =
@@ -285,8 +290,8 @@ module _ (w : ℕ) where
   -- a shift on 32 bits
   only_word_shift : (op : ImmOp) (f7 f3 rd rs1 n : ℕ) → rd < 2 ^ 5 → rs1 < 2 ^ 5 → f3 < 2 ^ 3 → f7 < 2 ^ 7 → n < 2 ^ 5
       → w ≡ f7 * 2 ^ 25 + n * 2 ^ 20 + rs1 * 2 ^ 15 + f3 * 2 ^ 12 + rd * 2 ^ 7 + 0b0011011
-      → (funct3_of w ≡ f3 → funct7_of w ≡ f7 → alu_imm_word_of w ≡ Some
-      (AluImm op (rd_of w) (rs1_of w) (pos (rs2_of w))))
+      → (funct3_field w ≡ f3 → funct7_field w ≡ f7 → as_alu_imm_word w ≡ Some
+      (AluImm op (rd_field w) (rs1_field w) (pos (rs2_field w))))
       → decoding w ≡ Some (AluImm op rd rs1 (pos n))
   only_word_shift op f7 f3 rd rs1 n hd h1 h3 h7 hn e read =
       let f = fields w f7 n rs1 f3 rd 0b0011011 h7 hn h1 h3 hd (omega arith) e in
@@ -337,15 +342,16 @@ module _ (w : ℕ) where
 
   -- the upper 20 bits
   u_number : (imm : ℤ) (rd o : ℕ) → IsMultiple 32 12 imm → rd < 2 ^ 5 → o < 2 ^ 7
-      → w ≡ part (field 32 imm) 31 12 * 2 ^ 12 + rd * 2 ^ 7 + o
+      → w ≡ part (twos_complement 32 imm) 31 12 * 2 ^ 12 + rd * 2 ^ 7 + o
       → (part w 6 0 ≡ o) × (part w 11 7 ≡ rd) × (u_imm w ≡ imm)
   u_number imm rd o fits hd ho e =
-      let n = field 32 imm in
-      let lt = field_lt 32 imm refl fits.range in
-      let zeros = fits.low in (
+      let n = twos_complement 32 imm in
+      let lt = bits_lt 32 imm refl fits.range in
+      let zeros = fits.low in
+      let upper : part w 31 12 * 2 ^ 12 ≡ n = omega arith in (
         omega arith,
         omega arith,
-        ap (signed 32) (omega arith) ∙ signed_field 32 imm refl fits.range,
+        ap (represents 32) upper ∙ number_again 32 imm refl fits.range,
       )
 
   only_lui : (rd : ℕ) (imm : ℤ) → Encodes w (Lui rd imm) → decoding w ≡ Some (Lui rd imm)
@@ -360,8 +366,8 @@ module _ (w : ℕ) where
 
   only_jal : (rd : ℕ) (imm : ℤ) → Encodes w (Jal rd imm) → decoding w ≡ Some (Jal rd imm)
   only_jal rd imm e =
-      let n = field 21 imm in
-      let lt = field_lt 21 imm refl e.fits.1.range in
+      let n = twos_complement 21 imm in
+      let lt = bits_lt 21 imm refl e.fits.1.range in
       let even = e.fits.1.low in
       let hd = e.fits.0 in
       let h = e.is in
@@ -371,8 +377,9 @@ module _ (w : ℕ) where
       let b : part w 19 12 ≡ part n 19 12 = omega arith in
       let c : part w 20 20 ≡ part n 11 11 = omega arith in
       let g : part w 30 21 ≡ part n 10 1 = omega arith in
-      let i : j_imm w ≡ imm =
-      ap (signed 21) (rw (a, b, c, g) (omega arith)) ∙ signed_field 21 imm refl e.fits.1.range in
+      let whole : part w 31 31 * 2 ^ 20 + part w 19 12 * 2 ^ 12 + part w 20 20 * 2 ^ 11 + part w 30 21 * 2 ≡ n =
+      rw (a, b, c, g) (omega arith) in
+      let i : j_imm w ≡ imm = ap (represents 21) whole ∙ number_again 21 imm refl e.fits.1.range in
       at_jal o ∙ rw (d, i) refl
 
   csr_funct3-pos : (op : CsrOp) → 0 < csr_funct3 op
@@ -406,25 +413,25 @@ module _ (w : ℕ) where
 
   -- the fields of an atomic instruction
   record Atomic (f5 : ℕ) (wide aq rl : Bool) (y x d : ℕ) : Type 0 where
-    of : Fields w (f5 * 2 ^ 2 + bit aq * 2 + bit rl) y x (atomic_funct3 wide) d 0b0101111
+    of : Fields w (f5 * 2 ^ 2 + bit_of aq * 2 + bit_of rl) y x (atomic_funct3 wide) d 0b0101111
     funct5 : part w 31 27 ≡ f5
-    acquires : aq_of w ≡ aq
-    releases : rl_of w ≡ rl
-    read : decoding w ≡ atomic_with w wide
+    acquires : aq_bit w ≡ aq
+    releases : rl_bit w ≡ rl
+    read : decoding w ≡ as_atomic_of w wide
 
   atomic_fields : (f5 : ℕ) (wide aq rl : Bool) (y x d : ℕ) → f5 < 2 ^ 5 → y < 2 ^ 5 → x < 2 ^ 5 → d < 2 ^ 5
-      → w ≡ f5 * 2 ^ 27 + bit aq * 2 ^ 26 + bit rl * 2 ^ 25 + y * 2 ^ 20 + x * 2 ^ 15 + atomic_funct3 wide * 2 ^ 12
-      + d * 2 ^ 7 + 0b0101111
+      → w ≡ f5 * 2 ^ 27 + bit_of aq * 2 ^ 26 + bit_of rl * 2 ^ 25 + y * 2 ^ 20 + x * 2 ^ 15
+      + atomic_funct3 wide * 2 ^ 12 + d * 2 ^ 7 + 0b0101111
       → Atomic f5 wide aq rl y x d
   atomic_fields f5 wide aq rl y x d h5 hy hx hd e =
       let a = bit-lt aq in
       let r = bit-lt rl in
       let f =
-      fields w (f5 * 2 ^ 2 + bit aq * 2 + bit rl) y x (atomic_funct3 wide) d 0b0101111 (omega arith) hy hx
+      fields w (f5 * 2 ^ 2 + bit_of aq * 2 + bit_of rl) y x (atomic_funct3 wide) d 0b0101111 (omega arith) hy hx
       (atomic_funct3-lt wide) hd (omega arith) (e ∙ omega arith) in
       let h = f.funct7 in
-      let aq' : part w 26 26 ≡ bit aq = omega arith in
-      let rl' : part w 25 25 ≡ bit rl = omega arith in
+      let aq' : part w 26 26 ≡ bit_of aq = omega arith in
+      let rl' : part w 25 25 ≡ bit_of rl = omega arith in
       record {
         of = f;
         funct5 = omega arith;
@@ -446,7 +453,7 @@ module _ (w : ℕ) where
       f.read ∙ rw (f.funct5, f.acquires, f.releases, f.of.rd, f.of.rs1, f.of.rs2) refl
 
   amo_with : (op : AmoOp) (wide : Bool) → part w 31 27 ≡ amo_funct5 op
-      → atomic_with w wide ≡ Some (Amo op wide (aq_of w) (rl_of w) (rd_of w) (rs1_of w) (rs2_of w))
+      → as_atomic_of w wide ≡ Some (Amo op wide (aq_bit w) (rl_bit w) (rd_field w) (rs1_field w) (rs2_field w))
   amo_with amo.Swap wide f = rw f refl
   amo_with _ wide f = rw f refl
 

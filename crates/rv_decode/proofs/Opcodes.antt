@@ -70,24 +70,24 @@ low_of : (w n opcode : ℕ) → opcode < 2 ^ 7 → w ≡ n * 2 ^ 7 + opcode → 
 low_of w n opcode h e = omega arith
 
 -- the word of an instruction has its form's opcode
-pub opcode_of : (w : ℕ) (i : Insn) → Encodes w i → IsOpcode i (part w 6 0)
-opcode_of w (Lui rd imm) e = let h = e.is in omega arith
-opcode_of w (Auipc rd imm) e = let h = e.is in omega arith
-opcode_of w (Jal rd imm) e = let h = e.is in omega arith
-opcode_of w (Jalr rd rs1 imm) e = let h = e.is in omega arith
-opcode_of w (Branch op rs1 rs2 imm) e = let h = e.is in omega arith
-opcode_of w (Load op rd rs1 imm) e = let h = e.is in omega arith
-opcode_of w (Store op rs1 rs2 imm) e = let h = e.is in omega arith
-opcode_of w (AluImm op rd rs1 imm) e = rw e.is (imm_opcode op imm rs1 rd e.fits.0)
-opcode_of w (Alu op rd rs1 rs2) e =
+pub opcode_is : (w : ℕ) (i : Insn) → Encodes w i → IsOpcode i (part w 6 0)
+opcode_is w (Lui rd imm) e = let h = e.is in omega arith
+opcode_is w (Auipc rd imm) e = let h = e.is in omega arith
+opcode_is w (Jal rd imm) e = let h = e.is in omega arith
+opcode_is w (Jalr rd rs1 imm) e = let h = e.is in omega arith
+opcode_is w (Branch op rs1 rs2 imm) e = let h = e.is in omega arith
+opcode_is w (Load op rd rs1 imm) e = let h = e.is in omega arith
+opcode_is w (Store op rs1 rs2 imm) e = let h = e.is in omega arith
+opcode_is w (AluImm op rd rs1 imm) e = rw e.is (imm_opcode op imm rs1 rd e.fits.0)
+opcode_is w (Alu op rd rs1 rs2) e =
     let h = e.is in
     elim (reg_opcode op) [ inl x ↦ inl (omega arith) | inr x ↦ inr (omega arith) ]
-opcode_of w (Fence fm pred succ rd rs1) e = let h = e.is in omega arith
-opcode_of w Ecall e = let h = e.is in omega arith
-opcode_of w Ebreak e = let h = e.is in omega arith
-opcode_of w Mret e = let h = e.is in omega arith
-opcode_of w Wfi e = let h = e.is in omega arith
-opcode_of w (Csr op rd source number) e = let h = e.is in omega arith
-opcode_of w (Lr wide aq rl rd rs1) e = let h = e.is in omega arith
-opcode_of w (Sc wide aq rl rd rs1 rs2) e = let h = e.is in omega arith
-opcode_of w (Amo op wide aq rl rd rs1 rs2) e = let h = e.is in omega arith
+opcode_is w (Fence fm pred succ rd rs1) e = let h = e.is in omega arith
+opcode_is w Ecall e = let h = e.is in omega arith
+opcode_is w Ebreak e = let h = e.is in omega arith
+opcode_is w Mret e = let h = e.is in omega arith
+opcode_is w Wfi e = let h = e.is in omega arith
+opcode_is w (Csr op rd source number) e = let h = e.is in omega arith
+opcode_is w (Lr wide aq rl rd rs1) e = let h = e.is in omega arith
+opcode_is w (Sc wide aq rl rd rs1 rs2) e = let h = e.is in omega arith
+opcode_is w (Amo op wide aq rl rd rs1 rs2) e = let h = e.is in omega arith

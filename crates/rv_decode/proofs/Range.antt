@@ -1,9 +1,9 @@
 -- Each word has 32 bits.
 use Rattle.std.proofs.Common.{◌↔◌, ℕ, ◌^◌, ◌<◌, ℤ, pos, negsuc, Bool, true, false, refl, arith}
-use Rattle.rv_decode.specs.Formats.{field, bit, IsAmount}
+use Rattle.rv_decode.specs.Formats.{twos_complement, bit_of, IsAmount}
 use Rattle.rv_decode.specs.Operations.{imm_word, IsOperand, reg_row, branch_funct3, load_funct3, store_funct3}
 use Rattle.rv_decode.specs.Operations.{csr_funct3, amo_funct5, atomic_funct3}
-use Rattle.rv_decode.specs.Listing.{Encodes, word_of, IsInsn}
+use Rattle.rv_decode.specs.Listing.{Encodes, encoding, IsInsn}
 use Rattle.rv_decode.specs.declared.operations.BranchOp.{BranchOp}
 use Rattle.rv_decode.specs.declared.operations.BranchOp.TheVariants as branch
 use Rattle.rv_decode.specs.declared.operations.LoadOp.{LoadOp}
@@ -47,7 +47,7 @@ pub atomic_funct3-lt : (wide : Bool) → atomic_funct3 wide < 8
 atomic_funct3-lt false = omega arith
 atomic_funct3-lt true = omega arith
 
-pub bit-lt : (b : Bool) → bit b < 2
+pub bit-lt : (b : Bool) → bit_of b < 2
 bit-lt false = omega arith
 bit-lt true = omega arith
 
@@ -56,11 +56,11 @@ pub reg_row-lt : (op : RegOp) → ((reg_row op).funct7 < 128) × ((reg_row op).f
 reg_row-lt reg_op.Add = (omega arith, omega arith, omega arith)
 reg_row-lt _ = (omega arith, omega arith, omega arith)
 
-pub amount-lt_6 : (imm : ℤ) → IsAmount 6 imm → field 6 imm < 64
+pub amount-lt_6 : (imm : ℤ) → IsAmount 6 imm → twos_complement 6 imm < 64
 amount-lt_6 (pos n) h = h
 amount-lt_6 (negsuc n) h = absurd h
 
-pub amount-lt_5 : (imm : ℤ) → IsAmount 5 imm → field 5 imm < 32
+pub amount-lt_5 : (imm : ℤ) → IsAmount 5 imm → twos_complement 5 imm < 32
 amount-lt_5 (pos n) h = h
 amount-lt_5 (negsuc n) h = absurd h
 
@@ -80,27 +80,27 @@ imm_word-lt imm_op.Slliw imm rs1 rd h x y = omega (arith, amount-lt_5 imm h)
 imm_word-lt imm_op.Srliw imm rs1 rd h x y = omega (arith, amount-lt_5 imm h)
 imm_word-lt imm_op.Sraiw imm rs1 rd h x y = omega (arith, amount-lt_5 imm h)
 
-pub word_of-lt : (i : Insn) → IsInsn i → word_of i < 2 ^ 32
-word_of-lt (Lui rd imm) h = omega (arith, h.0)
-word_of-lt (Auipc rd imm) h = omega (arith, h.0)
-word_of-lt (Jal rd imm) h = omega (arith, h.0)
-word_of-lt (Jalr rd rs1 imm) h = omega (arith, h.0, h.1)
-word_of-lt (Branch op rs1 rs2 imm) h = omega (arith, h.0, h.1, branch_funct3-lt op)
-word_of-lt (Load op rd rs1 imm) h = omega (arith, h.0, h.1, load_funct3-lt op)
-word_of-lt (Store op rs1 rs2 imm) h = omega (arith, h.0, h.1, store_funct3-lt op)
-word_of-lt (AluImm op rd rs1 imm) h = imm_word-lt op imm rs1 rd h.2 h.1 h.0
-word_of-lt (Alu op rd rs1 rs2) h = let r = reg_row-lt op in omega (arith, h.0, h.1, h.2, r.0, r.1, r.2)
-word_of-lt (Fence fm pred succ rd rs1) h = omega (arith, h.0, h.1, h.2, h.3, h.4)
-word_of-lt Ecall h = omega arith
-word_of-lt Ebreak h = omega arith
-word_of-lt Mret h = omega arith
-word_of-lt Wfi h = omega arith
-word_of-lt (Csr op rd source number) h = omega (arith, h.0, h.1, h.2, csr_funct3-lt op)
-word_of-lt (Lr wide aq rl rd rs1) h = omega (arith, h.0, h.1, bit-lt aq, bit-lt rl, atomic_funct3-lt wide)
-word_of-lt (Sc wide aq rl rd rs1 rs2) h = omega (arith, h.0, h.1, h.2, bit-lt aq, bit-lt rl, atomic_funct3-lt wide)
-word_of-lt (Amo op wide aq rl rd rs1 rs2) h =
+pub encoding-lt : (i : Insn) → IsInsn i → encoding i < 2 ^ 32
+encoding-lt (Lui rd imm) h = omega (arith, h.0)
+encoding-lt (Auipc rd imm) h = omega (arith, h.0)
+encoding-lt (Jal rd imm) h = omega (arith, h.0)
+encoding-lt (Jalr rd rs1 imm) h = omega (arith, h.0, h.1)
+encoding-lt (Branch op rs1 rs2 imm) h = omega (arith, h.0, h.1, branch_funct3-lt op)
+encoding-lt (Load op rd rs1 imm) h = omega (arith, h.0, h.1, load_funct3-lt op)
+encoding-lt (Store op rs1 rs2 imm) h = omega (arith, h.0, h.1, store_funct3-lt op)
+encoding-lt (AluImm op rd rs1 imm) h = imm_word-lt op imm rs1 rd h.2 h.1 h.0
+encoding-lt (Alu op rd rs1 rs2) h = let r = reg_row-lt op in omega (arith, h.0, h.1, h.2, r.0, r.1, r.2)
+encoding-lt (Fence fm pred succ rd rs1) h = omega (arith, h.0, h.1, h.2, h.3, h.4)
+encoding-lt Ecall h = omega arith
+encoding-lt Ebreak h = omega arith
+encoding-lt Mret h = omega arith
+encoding-lt Wfi h = omega arith
+encoding-lt (Csr op rd source number) h = omega (arith, h.0, h.1, h.2, csr_funct3-lt op)
+encoding-lt (Lr wide aq rl rd rs1) h = omega (arith, h.0, h.1, bit-lt aq, bit-lt rl, atomic_funct3-lt wide)
+encoding-lt (Sc wide aq rl rd rs1 rs2) h = omega (arith, h.0, h.1, h.2, bit-lt aq, bit-lt rl, atomic_funct3-lt wide)
+encoding-lt (Amo op wide aq rl rd rs1 rs2) h =
     omega (arith, h.0, h.1, h.2, bit-lt aq, bit-lt rl, atomic_funct3-lt wide, amo_funct5-lt op)
 
 -- the parts of an instruction fit exactly where some word of 32 bits is its word
 pub has_word : (i : Insn) → IsInsn i ↔ ((w : ℕ) × (w < 2 ^ 32) × Encodes w i)
-has_word i = (λ h. (word_of i, word_of-lt i h, record { is = refl; fits = h }), λ x. x.2.fits)
+has_word i = (λ h. (encoding i, encoding-lt i h, record { is = refl; fits = h }), λ x. x.2.fits)

@@ -1,6 +1,7 @@
 -- What each word encodes: the listings of chapter 24, read by the opcode and then by the other fields.
-use Rattle.std.specs.Prelude.{ℕ, ◌+◌, ◌-◌, ◌*◌, ◌^◌, ◌==◌, ℤ, pos, negsuc, Bool, true, false, ◌&&◌, nat_lt}
+use Rattle.std.specs.Prelude.{ℕ, ◌+◌, ◌*◌, ◌^◌, ◌==◌, ℤ, pos, Bool, true, false, ◌&&◌}
 use Rattle.std.specs.Prelude.{if◌then◌else◌, List, [], ◌∷◌, find, Option, None, Some, option_map, option_and_then}
+use Rattle.tandem_base.specs.Signs.{represents}
 use Rattle.rv_decode.specs.Formats.{part}
 use Rattle.rv_decode.specs.Operations.{Row, row, branch_funct3, load_funct3, store_funct3, reg_row, csr_funct3}
 use Rattle.rv_decode.specs.Operations.{amo_funct5, atomic_funct3}
@@ -28,71 +29,67 @@ use Rattle.rv_decode.specs.declared.instruction.Insn.TheVariants.{Amo}
 -- ---- the fields (sections 2.2 and 2.3)
 
 -- the opcode
-abbrev pub opcode_of : ℕ → ℕ
-opcode_of word = part word 6 0
+abbrev pub opcode_field : ℕ → ℕ
+opcode_field word = part word 6 0
 
 -- the number of rd
-abbrev pub rd_of : ℕ → ℕ
-rd_of word = part word 11 7
+abbrev pub rd_field : ℕ → ℕ
+rd_field word = part word 11 7
 
 -- funct3
-abbrev pub funct3_of : ℕ → ℕ
-funct3_of word = part word 14 12
+abbrev pub funct3_field : ℕ → ℕ
+funct3_field word = part word 14 12
 
 -- the number of rs1
-abbrev pub rs1_of : ℕ → ℕ
-rs1_of word = part word 19 15
+abbrev pub rs1_field : ℕ → ℕ
+rs1_field word = part word 19 15
 
 -- the number of rs2
-abbrev pub rs2_of : ℕ → ℕ
-rs2_of word = part word 24 20
+abbrev pub rs2_field : ℕ → ℕ
+rs2_field word = part word 24 20
 
 -- funct7
-abbrev pub funct7_of : ℕ → ℕ
-funct7_of word = part word 31 25
+abbrev pub funct7_field : ℕ → ℕ
+funct7_field word = part word 31 25
 
 -- the upper six bits of funct7, of a shift on 64 bits
-abbrev pub funct6_of : ℕ → ℕ
-funct6_of word = part word 31 26
+abbrev pub funct6_field : ℕ → ℕ
+funct6_field word = part word 31 26
 
 -- the upper five bits of funct7, of an atomic instruction
-abbrev pub funct5_of : ℕ → ℕ
-funct5_of word = part word 31 27
+abbrev pub funct5_field : ℕ → ℕ
+funct5_field word = part word 31 27
 
 -- acquire
-abbrev pub aq_of : ℕ → Bool
-aq_of word = part word 26 26 == 1
+abbrev pub aq_bit : ℕ → Bool
+aq_bit word = part word 26 26 == 1
 
 -- release
-abbrev pub rl_of : ℕ → Bool
-rl_of word = part word 25 25 == 1
-
--- the number with a sign that so many bits are in two's complement
-abbrev pub signed : ℕ → ℕ → ℤ
-signed bits n = if nat_lt n (2 ^ (bits - 1)) then pos n else negsuc (2 ^ bits - 1 - n)
+abbrev pub rl_bit : ℕ → Bool
+rl_bit word = part word 25 25 == 1
 
 -- the immediate of the I-type
 abbrev pub i_imm : ℕ → ℤ
-i_imm word = signed 12 (part word 31 20)
+i_imm word = represents 12 (part word 31 20)
 
 -- that of the S-type
 abbrev pub s_imm : ℕ → ℤ
-s_imm word = signed 12 (part word 31 25 * 2 ^ 5 + part word 11 7)
+s_imm word = represents 12 (part word 31 25 * 2 ^ 5 + part word 11 7)
 
 -- that of the B-type
 abbrev pub b_imm : ℕ → ℤ
 b_imm word =
-    signed 13
+    represents 13
     (part word 31 31 * 2 ^ 12 + part word 7 7 * 2 ^ 11 + part word 30 25 * 2 ^ 5 + part word 11 8 * 2)
 
 -- that of the U-type
 abbrev pub u_imm : ℕ → ℤ
-u_imm word = signed 32 (part word 31 12 * 2 ^ 12)
+u_imm word = represents 32 (part word 31 12 * 2 ^ 12)
 
 -- that of the J-type
 abbrev pub j_imm : ℕ → ℤ
 j_imm word =
-    signed 21
+    represents 21
     (part word 31 31 * 2 ^ 20 + part word 19 12 * 2 ^ 12 + part word 20 20 * 2 ^ 11 + part word 30 21 * 2)
 
 -- ---- the operations of each form, by the columns of the listings
@@ -165,112 +162,113 @@ reg_at line = find (λ op. same_row (reg_row op) line) reg_ops
 -- ---- the words of each opcode
 
 -- JALR
-abbrev pub jalr_of : ℕ → Option Insn
-jalr_of word = if funct3_of word == 0b000 then Some (Jalr (rd_of word) (rs1_of word) (i_imm word)) else None
+abbrev pub as_jalr : ℕ → Option Insn
+as_jalr word = if funct3_field word == 0b000 then Some (Jalr (rd_field word) (rs1_field word) (i_imm word)) else None
 
 -- the branches
-abbrev pub branch_of : ℕ → Option Insn
-branch_of word =
-    option_map (λ op. Branch op (rs1_of word) (rs2_of word) (b_imm word)) (branch_at (funct3_of word))
+abbrev pub as_branch : ℕ → Option Insn
+as_branch word =
+    option_map (λ op. Branch op (rs1_field word) (rs2_field word) (b_imm word)) (branch_at (funct3_field word))
 
 -- the loads
-abbrev pub load_of : ℕ → Option Insn
-load_of word = option_map (λ op. Load op (rd_of word) (rs1_of word) (i_imm word)) (load_at (funct3_of word))
+abbrev pub as_load : ℕ → Option Insn
+as_load word = option_map (λ op. Load op (rd_field word) (rs1_field word) (i_imm word)) (load_at (funct3_field word))
 
 -- the stores
-abbrev pub store_of : ℕ → Option Insn
-store_of word = option_map (λ op. Store op (rs1_of word) (rs2_of word) (s_imm word)) (store_at (funct3_of word))
+abbrev pub as_store : ℕ → Option Insn
+as_store word =
+    option_map (λ op. Store op (rs1_field word) (rs2_field word) (s_imm word)) (store_at (funct3_field word))
 
 -- the operations on an immediate of 64 bits; the shift amount has 6 bits
-abbrev pub alu_imm_of : ℕ → Option Insn
-alu_imm_of word =
-    let funct3 = funct3_of word in
+abbrev pub as_alu_imm : ℕ → Option Insn
+as_alu_imm word =
+    let funct3 = funct3_field word in
     let shift = pos (part word 25 20) in
-    if funct3 == 0b000 then Some (AluImm Addi (rd_of word) (rs1_of word) (i_imm word))
-    else if funct3 == 0b010 then Some (AluImm Slti (rd_of word) (rs1_of word) (i_imm word))
-    else if funct3 == 0b011 then Some (AluImm Sltiu (rd_of word) (rs1_of word) (i_imm word))
-    else if funct3 == 0b100 then Some (AluImm Xori (rd_of word) (rs1_of word) (i_imm word))
-    else if funct3 == 0b110 then Some (AluImm Ori (rd_of word) (rs1_of word) (i_imm word))
-    else if funct3 == 0b111 then Some (AluImm Andi (rd_of word) (rs1_of word) (i_imm word))
-    else if (funct6_of word == 0b000000) && (funct3 == 0b001)
-    then Some (AluImm Slli (rd_of word) (rs1_of word) shift)
-    else if (funct6_of word == 0b000000) && (funct3 == 0b101)
-    then Some (AluImm Srli (rd_of word) (rs1_of word) shift)
-    else if (funct6_of word == 0b010000) && (funct3 == 0b101)
-    then Some (AluImm Srai (rd_of word) (rs1_of word) shift)
+    if funct3 == 0b000 then Some (AluImm Addi (rd_field word) (rs1_field word) (i_imm word))
+    else if funct3 == 0b010 then Some (AluImm Slti (rd_field word) (rs1_field word) (i_imm word))
+    else if funct3 == 0b011 then Some (AluImm Sltiu (rd_field word) (rs1_field word) (i_imm word))
+    else if funct3 == 0b100 then Some (AluImm Xori (rd_field word) (rs1_field word) (i_imm word))
+    else if funct3 == 0b110 then Some (AluImm Ori (rd_field word) (rs1_field word) (i_imm word))
+    else if funct3 == 0b111 then Some (AluImm Andi (rd_field word) (rs1_field word) (i_imm word))
+    else if (funct6_field word == 0b000000) && (funct3 == 0b001)
+    then Some (AluImm Slli (rd_field word) (rs1_field word) shift)
+    else if (funct6_field word == 0b000000) && (funct3 == 0b101)
+    then Some (AluImm Srli (rd_field word) (rs1_field word) shift)
+    else if (funct6_field word == 0b010000) && (funct3 == 0b101)
+    then Some (AluImm Srai (rd_field word) (rs1_field word) shift)
     else None
 
 -- the same on the low 32 bits; the shift amount has 5 bits
-abbrev pub alu_imm_word_of : ℕ → Option Insn
-alu_imm_word_of word =
-    let funct3 = funct3_of word in
-    let shift = pos (rs2_of word) in
-    if funct3 == 0b000 then Some (AluImm Addiw (rd_of word) (rs1_of word) (i_imm word))
-    else if (funct7_of word == 0b0000000) && (funct3 == 0b001)
-    then Some (AluImm Slliw (rd_of word) (rs1_of word) shift)
-    else if (funct7_of word == 0b0000000) && (funct3 == 0b101)
-    then Some (AluImm Srliw (rd_of word) (rs1_of word) shift)
-    else if (funct7_of word == 0b0100000) && (funct3 == 0b101)
-    then Some (AluImm Sraiw (rd_of word) (rs1_of word) shift)
+abbrev pub as_alu_imm_word : ℕ → Option Insn
+as_alu_imm_word word =
+    let funct3 = funct3_field word in
+    let shift = pos (rs2_field word) in
+    if funct3 == 0b000 then Some (AluImm Addiw (rd_field word) (rs1_field word) (i_imm word))
+    else if (funct7_field word == 0b0000000) && (funct3 == 0b001)
+    then Some (AluImm Slliw (rd_field word) (rs1_field word) shift)
+    else if (funct7_field word == 0b0000000) && (funct3 == 0b101)
+    then Some (AluImm Srliw (rd_field word) (rs1_field word) shift)
+    else if (funct7_field word == 0b0100000) && (funct3 == 0b101)
+    then Some (AluImm Sraiw (rd_field word) (rs1_field word) shift)
     else None
 
 -- the operations on registers, of 64 bits or of 32
-abbrev pub alu_reg_of : ℕ → ℕ → Option Insn
-alu_reg_of opcode word =
-    option_map (λ op. Alu op (rd_of word) (rs1_of word) (rs2_of word))
-    (reg_at (row (funct7_of word) (funct3_of word) opcode))
+abbrev pub as_alu : ℕ → ℕ → Option Insn
+as_alu opcode word =
+    option_map (λ op. Alu op (rd_field word) (rs1_field word) (rs2_field word))
+    (reg_at (row (funct7_field word) (funct3_field word) opcode))
 
 -- FENCE
-abbrev pub fence_of : ℕ → Option Insn
-fence_of word =
-    if funct3_of word == 0b000
-    then Some (Fence (part word 31 28) (part word 27 24) (part word 23 20) (rd_of word) (rs1_of word))
+abbrev pub as_fence : ℕ → Option Insn
+as_fence word =
+    if funct3_field word == 0b000
+    then Some (Fence (part word 31 28) (part word 27 24) (part word 23 20) (rd_field word) (rs1_field word))
     else None
 
 -- the CSR instructions
-abbrev pub csr_of : ℕ → Option Insn
-csr_of word =
-    option_map (λ op. Csr op (rd_of word) (rs1_of word) (part word 31 20)) (csr_at (funct3_of word))
+abbrev pub as_csr : ℕ → Option Insn
+as_csr word =
+    option_map (λ op. Csr op (rd_field word) (rs1_field word) (part word 31 20)) (csr_at (funct3_field word))
 
 -- the calls of the environment, MRET, WFI and the CSR instructions
-abbrev pub system_of : ℕ → Option Insn
-system_of word =
+abbrev pub as_system : ℕ → Option Insn
+as_system word =
     if word == 0x00000073 then Some Ecall
     else if word == 0x00100073 then Some Ebreak
     else if word == 0x30200073 then Some Mret
     else if word == 0x10500073 then Some Wfi
-    else csr_of word
+    else as_csr word
 
 -- LR, SC and the atomic operations, on words or on doublewords
-abbrev pub atomic_with : ℕ → Bool → Option Insn
-atomic_with word wide =
-    if (funct5_of word == 0b00010) && (rs2_of word == 0)
-    then Some (Lr wide (aq_of word) (rl_of word) (rd_of word) (rs1_of word))
-    else if funct5_of word == 0b00011
-    then Some (Sc wide (aq_of word) (rl_of word) (rd_of word) (rs1_of word) (rs2_of word))
+abbrev pub as_atomic_of : ℕ → Bool → Option Insn
+as_atomic_of word wide =
+    if (funct5_field word == 0b00010) && (rs2_field word == 0)
+    then Some (Lr wide (aq_bit word) (rl_bit word) (rd_field word) (rs1_field word))
+    else if funct5_field word == 0b00011
+    then Some (Sc wide (aq_bit word) (rl_bit word) (rd_field word) (rs1_field word) (rs2_field word))
     else
-    option_map (λ op. Amo op wide (aq_of word) (rl_of word) (rd_of word) (rs1_of word) (rs2_of word))
-    (amo_at (funct5_of word))
+    option_map (λ op. Amo op wide (aq_bit word) (rl_bit word) (rd_field word) (rs1_field word) (rs2_field word))
+    (amo_at (funct5_field word))
 
 -- the atomic instructions
-abbrev pub atomic_of : ℕ → Option Insn
-atomic_of word = option_and_then (atomic_with word) (width_at (funct3_of word))
+abbrev pub as_atomic : ℕ → Option Insn
+as_atomic word = option_and_then (as_atomic_of word) (width_at (funct3_field word))
 
 -- the instruction of a word, by its opcode
 unfoldable pub decoding : ℕ → Option Insn
 decoding word =
-    if opcode_of word == 0b0110111 then Some (Lui (rd_of word) (u_imm word))
-    else if opcode_of word == 0b0010111 then Some (Auipc (rd_of word) (u_imm word))
-    else if opcode_of word == 0b1101111 then Some (Jal (rd_of word) (j_imm word))
-    else if opcode_of word == 0b1100111 then jalr_of word
-    else if opcode_of word == 0b1100011 then branch_of word
-    else if opcode_of word == 0b0000011 then load_of word
-    else if opcode_of word == 0b0100011 then store_of word
-    else if opcode_of word == 0b0010011 then alu_imm_of word
-    else if opcode_of word == 0b0011011 then alu_imm_word_of word
-    else if opcode_of word == 0b0110011 then alu_reg_of 0b0110011 word
-    else if opcode_of word == 0b0111011 then alu_reg_of 0b0111011 word
-    else if opcode_of word == 0b0001111 then fence_of word
-    else if opcode_of word == 0b1110011 then system_of word
-    else if opcode_of word == 0b0101111 then atomic_of word
+    if opcode_field word == 0b0110111 then Some (Lui (rd_field word) (u_imm word))
+    else if opcode_field word == 0b0010111 then Some (Auipc (rd_field word) (u_imm word))
+    else if opcode_field word == 0b1101111 then Some (Jal (rd_field word) (j_imm word))
+    else if opcode_field word == 0b1100111 then as_jalr word
+    else if opcode_field word == 0b1100011 then as_branch word
+    else if opcode_field word == 0b0000011 then as_load word
+    else if opcode_field word == 0b0100011 then as_store word
+    else if opcode_field word == 0b0010011 then as_alu_imm word
+    else if opcode_field word == 0b0011011 then as_alu_imm_word word
+    else if opcode_field word == 0b0110011 then as_alu 0b0110011 word
+    else if opcode_field word == 0b0111011 then as_alu 0b0111011 word
+    else if opcode_field word == 0b0001111 then as_fence word
+    else if opcode_field word == 0b1110011 then as_system word
+    else if opcode_field word == 0b0101111 then as_atomic word
     else None

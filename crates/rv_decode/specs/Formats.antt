@@ -5,10 +5,10 @@ use Rattle.std.specs.Prelude.{◌≡◌, ℕ, ◌+◌, ◌-◌, ◌*◌, ◌/◌
 abbrev pub part : ℕ → ℕ → ℕ → ℕ
 part n high low = n / 2 ^ low % 2 ^ (high + 1 - low)
 
--- a signed number in two's complement of so many bits
-abbrev pub field : ℕ → ℤ → ℕ
-field bits (pos n) = n
-field bits (negsuc n) = 2 ^ bits - 1 - n
+-- the bits of a signed number in two's complement, of so many bits
+abbrev pub twos_complement : ℕ → ℤ → ℕ
+twos_complement bits (pos n) = n
+twos_complement bits (negsuc n) = 2 ^ bits - 1 - n
 
 -- a signed number that so many bits hold
 abbrev pub IsSigned : ℕ → ℤ → Type 0
@@ -18,17 +18,17 @@ IsSigned bits (negsuc n) = n < 2 ^ (bits - 1)
 -- a signed multiple of 2 ^ zeros that so many bits hold
 pub record IsMultiple (bits zeros : ℕ) (imm : ℤ) : Type 0 where
   pub range : IsSigned bits imm
-  pub low : field bits imm % 2 ^ zeros ≡ 0
+  pub low : twos_complement bits imm % 2 ^ zeros ≡ 0
 
 -- a shift amount that so many bits hold
 abbrev pub IsAmount : ℕ → ℤ → Type 0
 IsAmount bits (pos n) = n < 2 ^ bits
 IsAmount bits (negsuc n) = ⊥
 
--- a bit as a number
-abbrev pub bit : Bool → ℕ
-bit false = 0
-bit true = 1
+-- a truth value as a bit, 0 or 1
+abbrev pub bit_of : Bool → ℕ
+bit_of false = 0
+bit_of true = 1
 
 -- funct7 | rs2 | rs1 | funct3 | rd | opcode
 abbrev pub r_type : ℕ → ℕ → ℕ → ℕ → ℕ → ℕ → ℕ
@@ -69,7 +69,7 @@ shift_type funct6 shamt rs1 funct3 rd opcode =
 -- an atomic instruction: funct5 | aq | rl | rs2 | rs1 | funct3 | rd | opcode
 abbrev pub a_type : ℕ → Bool → Bool → ℕ → ℕ → ℕ → ℕ → ℕ → ℕ
 a_type funct5 aq rl rs2 rs1 funct3 rd opcode =
-    funct5 * 2 ^ 27 + bit aq * 2 ^ 26 + bit rl * 2 ^ 25 + rs2 * 2 ^ 20 + rs1 * 2 ^ 15 + funct3 * 2 ^ 12
+    funct5 * 2 ^ 27 + bit_of aq * 2 ^ 26 + bit_of rl * 2 ^ 25 + rs2 * 2 ^ 20 + rs1 * 2 ^ 15 + funct3 * 2 ^ 12
     + rd * 2 ^ 7 + opcode
 
 -- a fence: fm | pred | succ | rs1 | funct3 | rd | opcode

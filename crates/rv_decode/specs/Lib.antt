@@ -3,3 +3,4 @@ pub mod Operations
 pub mod Listing
 pub mod Decoding
 pub mod Registers
+pub mod Kinds

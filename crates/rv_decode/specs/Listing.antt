@@ -1,7 +1,7 @@
 -- The instruction words (chapter 24; MRET and WFI: Volume II, Privileged Instruction Set Listings).
 use Rattle.std.specs.Prelude.{◌≡◌, ℕ, ◌^◌, ◌<◌}
-use Rattle.rv_decode.specs.Formats.{field, IsSigned, IsMultiple, r_type, i_type, s_type, b_type, u_type, j_type, a_type}
-use Rattle.rv_decode.specs.Formats.{fence_type}
+use Rattle.rv_decode.specs.Formats.{twos_complement, IsSigned, IsMultiple, r_type, i_type, s_type, b_type}
+use Rattle.rv_decode.specs.Formats.{u_type, j_type, a_type, fence_type}
 use Rattle.rv_decode.specs.Operations.{branch_funct3, load_funct3, store_funct3, imm_word, IsOperand, reg_row}
 use Rattle.rv_decode.specs.Operations.{csr_funct3, amo_funct5, atomic_funct3}
 use Rattle.rv_decode.specs.declared.instruction.Insn.{Insn}
@@ -10,25 +10,25 @@ use Rattle.rv_decode.specs.declared.instruction.Insn.TheVariants.{Alu, Fence, Ec
 use Rattle.rv_decode.specs.declared.instruction.Insn.TheVariants.{Amo}
 
 -- the word of an instruction
-abbrev pub word_of : Insn → ℕ
-word_of (Lui rd imm) = u_type (field 32 imm) rd 0b0110111
-word_of (Auipc rd imm) = u_type (field 32 imm) rd 0b0010111
-word_of (Jal rd imm) = j_type (field 21 imm) rd 0b1101111
-word_of (Jalr rd rs1 imm) = i_type (field 12 imm) rs1 0b000 rd 0b1100111
-word_of (Branch op rs1 rs2 imm) = b_type (field 13 imm) rs2 rs1 (branch_funct3 op) 0b1100011
-word_of (Load op rd rs1 imm) = i_type (field 12 imm) rs1 (load_funct3 op) rd 0b0000011
-word_of (Store op rs1 rs2 imm) = s_type (field 12 imm) rs2 rs1 (store_funct3 op) 0b0100011
-word_of (AluImm op rd rs1 imm) = imm_word op imm rs1 rd
-word_of (Alu op rd rs1 rs2) = r_type (reg_row op).funct7 rs2 rs1 (reg_row op).funct3 rd (reg_row op).opcode
-word_of (Fence fm pred succ rd rs1) = fence_type fm pred succ rs1 0b000 rd 0b0001111
-word_of Ecall = 0x00000073
-word_of Ebreak = 0x00100073
-word_of Mret = 0x30200073
-word_of Wfi = 0x10500073
-word_of (Csr op rd source number) = i_type number source (csr_funct3 op) rd 0b1110011
-word_of (Lr wide aq rl rd rs1) = a_type 0b00010 aq rl 0b00000 rs1 (atomic_funct3 wide) rd 0b0101111
-word_of (Sc wide aq rl rd rs1 rs2) = a_type 0b00011 aq rl rs2 rs1 (atomic_funct3 wide) rd 0b0101111
-word_of (Amo op wide aq rl rd rs1 rs2) = a_type (amo_funct5 op) aq rl rs2 rs1 (atomic_funct3 wide) rd 0b0101111
+abbrev pub encoding : Insn → ℕ
+encoding (Lui rd imm) = u_type (twos_complement 32 imm) rd 0b0110111
+encoding (Auipc rd imm) = u_type (twos_complement 32 imm) rd 0b0010111
+encoding (Jal rd imm) = j_type (twos_complement 21 imm) rd 0b1101111
+encoding (Jalr rd rs1 imm) = i_type (twos_complement 12 imm) rs1 0b000 rd 0b1100111
+encoding (Branch op rs1 rs2 imm) = b_type (twos_complement 13 imm) rs2 rs1 (branch_funct3 op) 0b1100011
+encoding (Load op rd rs1 imm) = i_type (twos_complement 12 imm) rs1 (load_funct3 op) rd 0b0000011
+encoding (Store op rs1 rs2 imm) = s_type (twos_complement 12 imm) rs2 rs1 (store_funct3 op) 0b0100011
+encoding (AluImm op rd rs1 imm) = imm_word op imm rs1 rd
+encoding (Alu op rd rs1 rs2) = r_type (reg_row op).funct7 rs2 rs1 (reg_row op).funct3 rd (reg_row op).opcode
+encoding (Fence fm pred succ rd rs1) = fence_type fm pred succ rs1 0b000 rd 0b0001111
+encoding Ecall = 0x00000073
+encoding Ebreak = 0x00100073
+encoding Mret = 0x30200073
+encoding Wfi = 0x10500073
+encoding (Csr op rd source number) = i_type number source (csr_funct3 op) rd 0b1110011
+encoding (Lr wide aq rl rd rs1) = a_type 0b00010 aq rl 0b00000 rs1 (atomic_funct3 wide) rd 0b0101111
+encoding (Sc wide aq rl rd rs1 rs2) = a_type 0b00011 aq rl rs2 rs1 (atomic_funct3 wide) rd 0b0101111
+encoding (Amo op wide aq rl rd rs1 rs2) = a_type (amo_funct5 op) aq rl rs2 rs1 (atomic_funct3 wide) rd 0b0101111
 
 -- each part of the instruction fits its field
 abbrev pub IsInsn : Insn → Type 0
@@ -53,5 +53,5 @@ IsInsn (Amo op wide aq rl rd rs1 rs2) = (rd < 32) × (rs1 < 32) × (rs2 < 32)
 
 -- the word is that of the instruction
 pub record Encodes (word : ℕ) (insn : Insn) : Type 0 where
-  pub is : word ≡ word_of insn
+  pub is : word ≡ encoding insn
   pub fits : IsInsn insn

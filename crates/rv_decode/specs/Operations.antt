@@ -1,6 +1,6 @@
 -- What tells the operations of one form apart: the columns of the listings of chapter 24.
 use Rattle.std.specs.Prelude.{ℕ, ℤ, Bool, true, false}
-use Rattle.rv_decode.specs.Formats.{field, IsSigned, IsAmount, i_type, r_type, shift_type}
+use Rattle.rv_decode.specs.Formats.{twos_complement, IsSigned, IsAmount, i_type, r_type, shift_type}
 use Rattle.rv_decode.specs.declared.operations.BranchOp.{BranchOp}
 use Rattle.rv_decode.specs.declared.operations.BranchOp.TheVariants.{Beq, Bne, Blt, Bge, Bltu, Bgeu}
 use Rattle.rv_decode.specs.declared.operations.LoadOp.{LoadOp}
@@ -86,9 +86,9 @@ IsHeld (amount_5 funct7) imm = IsAmount 5 imm
 
 -- a word with the field
 abbrev pub word_with : ImmField → ℤ → ℕ → ℕ → ℕ → ℕ → ℕ
-word_with signed_12 imm rs1 funct3 rd opcode = i_type (field 12 imm) rs1 funct3 rd opcode
-word_with (amount_6 funct6) imm rs1 funct3 rd opcode = shift_type funct6 (field 6 imm) rs1 funct3 rd opcode
-word_with (amount_5 funct7) imm rs1 funct3 rd opcode = r_type funct7 (field 5 imm) rs1 funct3 rd opcode
+word_with signed_12 imm rs1 funct3 rd opcode = i_type (twos_complement 12 imm) rs1 funct3 rd opcode
+word_with (amount_6 funct6) imm rs1 funct3 rd opcode = shift_type funct6 (twos_complement 6 imm) rs1 funct3 rd opcode
+word_with (amount_5 funct7) imm rs1 funct3 rd opcode = r_type funct7 (twos_complement 5 imm) rs1 funct3 rd opcode
 
 -- the immediates of an operation
 abbrev pub IsOperand : ImmOp → ℤ → Type 0

@@ -1,6 +1,6 @@
 //! Words of one opcode: atomic instructions.
 
-ghost use Rattle.rv_decode.specs.Decoding.{atomic_of};
+ghost use Rattle.rv_decode.specs.Decoding.{as_atomic};
 ghost use Rattle.std.specs.Prelude.{◌≡◌, ℕ, Bool, IfSome};
 ghost use Rattle.rv_decode.specs.Formats.{part};
 ghost use Rattle.rv_decode.specs.Listing.{Encodes};
@@ -11,8 +11,9 @@ use crate::columns::{amo_op, width};
 use crate::fields::{aq, funct3, funct5, rd, rl, rs1, rs2};
 use crate::instruction::Insn;
 
+/// An LR, SC or AMO (sections 8.2 and 8.4).
 pub fn atomic(word: u32) -> Option<Insn>
-    ensures { result ≡ atomic_of word }
+    ensures { result ≡ as_atomic word }
 {
     let wide = width(funct3(word))?;
     let (aq, rl) = (aq(word), rl(word));

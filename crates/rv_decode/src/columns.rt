@@ -13,6 +13,7 @@ ghost use Rattle.rv_decode.specs.declared.operations.RegOp.{RegOp};
 
 use crate::operations::{AmoOp, BranchOp, CsrOp, LoadOp, RegOp, StoreOp};
 
+/// The branch of this funct3.
 pub fn branch_op(funct3: u32) -> Option<BranchOp>
     ensures { result ≡ branch_at funct3 }
 {
@@ -27,6 +28,7 @@ pub fn branch_op(funct3: u32) -> Option<BranchOp>
     }
 }
 
+/// The load of this funct3.
 pub fn load_op(funct3: u32) -> Option<LoadOp>
     ensures { result ≡ load_at funct3 }
 {
@@ -42,6 +44,7 @@ pub fn load_op(funct3: u32) -> Option<LoadOp>
     }
 }
 
+/// The store of this funct3.
 pub fn store_op(funct3: u32) -> Option<StoreOp>
     ensures { result ≡ store_at funct3 }
 {
@@ -54,6 +57,7 @@ pub fn store_op(funct3: u32) -> Option<StoreOp>
     }
 }
 
+/// The CSR instruction of this funct3.
 pub fn csr_op(funct3: u32) -> Option<CsrOp>
     ensures { result ≡ csr_at funct3 }
 {
@@ -68,6 +72,7 @@ pub fn csr_op(funct3: u32) -> Option<CsrOp>
     }
 }
 
+/// The AMO of this funct5.
 pub fn amo_op(funct5: u32) -> Option<AmoOp>
     ensures { result ≡ amo_at funct5 }
 {

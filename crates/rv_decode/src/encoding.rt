@@ -1,13 +1,14 @@
 //! Instructions to words.
 
-ghost use Rattle.std.specs.Prelude.{◌≡◌, ◌<◌};
-ghost use Rattle.rv_decode.specs.Listing.{word_of, IsInsn};
+ghost use Rattle.std.specs.Prelude.{◌≡◌, ◌<◌, true};
+ghost use Rattle.rv_decode.specs.Listing.{encoding, IsInsn};
 ghost use Rattle.rv_decode.specs.Operations.{imm_word, IsOperand, reg_row};
-ghost use Rattle.rv_decode.specs.Formats.{r_type};
-ghost use Rattle.rv_decode.specs.declared.instruction.Insn.TheVariants.{Amo};
+ghost use Rattle.rv_decode.specs.Formats.{IsMultiple, r_type};
+ghost use Rattle.rv_decode.specs.Kinds.{is_lr, is_sc, is_amo};
+ghost use Rattle.rv_decode.specs.declared.instruction.Insn.TheVariants.{Branch};
 
 use crate::instruction::Insn;
-use crate::operations::{AmoOp, ImmOp, RegOp};
+use crate::operations::{BranchOp, ImmOp, RegOp};
 use crate::rows::{
     funct3_of_branch, funct3_of_csr, funct3_of_load, funct3_of_store, funct3_of_width,
     funct5_of_amo, row_of,
@@ -20,20 +21,14 @@ use crate::words::{
 /// word then.
 pub fn encode(insn: &Insn) -> u32
     requires { IsInsn insn.now }
-    ensures { result ≡ word_of insn.now }
+    ensures { result ≡ encoding insn.now }
 {
     match *insn {
         Insn::Lui { rd, imm } => u_word(imm, rd, 0b0110111),
         Insn::Auipc { rd, imm } => u_word(imm, rd, 0b0010111),
         Insn::Jal { rd, imm } => j_word(imm, rd, 0b1101111),
         Insn::Jalr { rd, rs1, imm } => i_word(imm, rs1, 0b000, rd, 0b1100111),
-        Insn::Branch { op, rs1, rs2, imm } => b_word(
-            imm,
-            rs2,
-            rs1,
-            funct3_of_branch(op),
-            0b1100011,
-        ),
+        Insn::Branch { op, rs1, rs2, imm } => branch_word(op, imm, rs2, rs1),
         Insn::Load { op, rd, rs1, imm } => i_word(imm, rs1, funct3_of_load(op), rd, 0b0000011),
         Insn::Store { op, rs1, rs2, imm } => s_word(imm, rs2, rs1, funct3_of_store(op), 0b0100011),
         Insn::AluImm { op, rd, rs1, imm } => alu_imm_word(op, imm, rs1, rd),
@@ -55,6 +50,29 @@ pub fn encode(insn: &Insn) -> u32
             source,
             number,
         } => csr_word(number, source, funct3_of_csr(op), rd),
+        Insn::Lr { .. } => lr_word(insn),
+        Insn::Sc { .. } => sc_word(insn),
+        Insn::Amo { .. } => amo_word(insn),
+    }
+}
+
+/// The word of a branch.
+fn branch_word(op: BranchOp, imm: i64, rs2: u8, rs1: u8) -> u32
+    requires imm { IsMultiple 13 1 imm }
+    requires rs2 { rs2 < 32 }
+    requires rs1 { rs1 < 32 }
+    ensures { result ≡ encoding (Branch op rs1 rs2 imm) }
+{
+    b_word(imm, rs2, rs1, funct3_of_branch(op), 0b1100011)
+}
+
+/// The word of an LR.
+fn lr_word(insn: &Insn) -> u32
+    requires fits { IsInsn insn.now }
+    requires kind { is_lr insn.now ≡ true }
+    ensures { result ≡ encoding insn.now }
+{
+    match *insn {
         Insn::Lr {
             wide,
             aq,
@@ -62,6 +80,17 @@ pub fn encode(insn: &Insn) -> u32
             rd,
             rs1,
         } => a_word(0b00010, aq, rl, 0, rs1, funct3_of_width(wide), rd),
+        _ => unreachable!(),
+    }
+}
+
+/// The word of an SC.
+fn sc_word(insn: &Insn) -> u32
+    requires fits { IsInsn insn.now }
+    requires kind { is_sc insn.now ≡ true }
+    ensures { result ≡ encoding insn.now }
+{
+    match *insn {
         Insn::Sc {
             wide,
             aq,
@@ -70,6 +99,17 @@ pub fn encode(insn: &Insn) -> u32
             rs1,
             rs2,
         } => a_word(0b00011, aq, rl, rs2, rs1, funct3_of_width(wide), rd),
+        _ => unreachable!(),
+    }
+}
+
+/// The word of an AMO.
+fn amo_word(insn: &Insn) -> u32
+    requires fits { IsInsn insn.now }
+    requires kind { is_amo insn.now ≡ true }
+    ensures { result ≡ encoding insn.now }
+{
+    match *insn {
         Insn::Amo {
             op,
             wide,
@@ -78,19 +118,12 @@ pub fn encode(insn: &Insn) -> u32
             rd,
             rs1,
             rs2,
-        } => amo_word(op, wide, aq, rl, rd, rs1, rs2),
+        } => {
+            let funct5 = funct5_of_amo(op);
+            a_word(funct5, aq, rl, rs2, rs1, funct3_of_width(wide), rd)
+        }
+        _ => unreachable!(),
     }
-}
-
-/// The word of an atomic operation.
-fn amo_word(op: AmoOp, wide: bool, aq: bool, rl: bool, rd: u8, rs1: u8, rs2: u8) -> u32
-    requires rd { rd < 32 }
-    requires rs1 { rs1 < 32 }
-    requires rs2 { rs2 < 32 }
-    ensures { result ≡ word_of (Amo op wide aq rl rd rs1 rs2) }
-{
-    let funct5 = funct5_of_amo(op);
-    a_word(funct5, aq, rl, rs2, rs1, funct3_of_width(wide), rd)
 }
 
 /// The word of an operation on an immediate.

@@ -1,6 +1,6 @@
 //! Words of one opcode: fences, calls and returns of the environment, and CSR instructions.
 
-ghost use Rattle.rv_decode.specs.Decoding.{fence_of, system_of, csr_of};
+ghost use Rattle.rv_decode.specs.Decoding.{as_fence, as_system, as_csr};
 ghost use Rattle.std.specs.Prelude.{◌≡◌, ℕ, IfSome};
 ghost use Rattle.rv_decode.specs.Formats.{part};
 ghost use Rattle.rv_decode.specs.Listing.{Encodes};
@@ -11,8 +11,9 @@ use crate::columns::csr_op;
 use crate::fields::{funct3, rd, rs1};
 use crate::instruction::Insn;
 
+/// A FENCE (section 2.7).
 pub fn fence(word: u32) -> Option<Insn>
-    ensures { result ≡ fence_of word }
+    ensures { result ≡ as_fence word }
 {
     match funct3(word) {
         0b000 => Some(Insn::Fence {
@@ -28,7 +29,7 @@ pub fn fence(word: u32) -> Option<Insn>
 
 /// A call or return of the environment, or a CSR instruction.
 pub fn system(word: u32) -> Option<Insn>
-    ensures { result ≡ system_of word }
+    ensures { result ≡ as_system word }
 {
     match word {
         0x0000_0073 => Some(Insn::Ecall),
@@ -40,7 +41,7 @@ pub fn system(word: u32) -> Option<Insn>
 }
 
 fn csr(word: u32) -> Option<Insn>
-    ensures { result ≡ csr_of word }
+    ensures { result ≡ as_csr word }
 {
     let op = csr_op(funct3(word))?;
     Some(Insn::Csr {

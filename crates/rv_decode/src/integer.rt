@@ -1,7 +1,7 @@
 //! Words of one opcode, on registers and immediates.
 
-ghost use Rattle.rv_decode.specs.Decoding.{rd_of, u_imm, j_imm, jalr_of, branch_of, load_of, store_of, alu_imm_of};
-ghost use Rattle.rv_decode.specs.Decoding.{alu_imm_word_of, alu_reg_of};
+ghost use Rattle.rv_decode.specs.Decoding.{rd_field, u_imm, j_imm, as_jalr, as_branch, as_load, as_store, as_alu_imm};
+ghost use Rattle.rv_decode.specs.Decoding.{as_alu_imm_word, as_alu};
 ghost use Rattle.std.specs.Prelude.{◌≡◌};
 ghost use Rattle.rv_decode.specs.Formats.{part};
 ghost use Rattle.rv_decode.specs.Listing.{Encodes};
@@ -19,8 +19,9 @@ use crate::immediates::{b_immediate, i_immediate, j_immediate, s_immediate, u_im
 use crate::instruction::Insn;
 use crate::operations::ImmOp;
 
+/// LUI (section 2.4).
 pub fn lui(word: u32) -> Insn
-    ensures { result ≡ Lui (rd_of word) (u_imm word) }
+    ensures { result ≡ Lui (rd_field word) (u_imm word) }
 {
     Insn::Lui {
         rd: rd(word),
@@ -28,8 +29,9 @@ pub fn lui(word: u32) -> Insn
     }
 }
 
+/// AUIPC (section 2.4).
 pub fn auipc(word: u32) -> Insn
-    ensures { result ≡ Auipc (rd_of word) (u_imm word) }
+    ensures { result ≡ Auipc (rd_field word) (u_imm word) }
 {
     Insn::Auipc {
         rd: rd(word),
@@ -37,8 +39,9 @@ pub fn auipc(word: u32) -> Insn
     }
 }
 
+/// JAL (section 2.5).
 pub fn jal(word: u32) -> Insn
-    ensures { result ≡ Jal (rd_of word) (j_imm word) }
+    ensures { result ≡ Jal (rd_field word) (j_imm word) }
 {
     Insn::Jal {
         rd: rd(word),
@@ -46,8 +49,9 @@ pub fn jal(word: u32) -> Insn
     }
 }
 
+/// JALR (section 2.5).
 pub fn jalr(word: u32) -> Option<Insn>
-    ensures { result ≡ jalr_of word }
+    ensures { result ≡ as_jalr word }
 {
     match funct3(word) {
         0b000 => Some(Insn::Jalr {
@@ -59,8 +63,9 @@ pub fn jalr(word: u32) -> Option<Insn>
     }
 }
 
+/// A branch (section 2.5).
 pub fn branch(word: u32) -> Option<Insn>
-    ensures { result ≡ branch_of word }
+    ensures { result ≡ as_branch word }
 {
     let op = branch_op(funct3(word))?;
     Some(Insn::Branch {
@@ -71,8 +76,9 @@ pub fn branch(word: u32) -> Option<Insn>
     })
 }
 
+/// A load (section 2.6).
 pub fn load(word: u32) -> Option<Insn>
-    ensures { result ≡ load_of word }
+    ensures { result ≡ as_load word }
 {
     let op = load_op(funct3(word))?;
     Some(Insn::Load {
@@ -83,8 +89,9 @@ pub fn load(word: u32) -> Option<Insn>
     })
 }
 
+/// A store (section 2.6).
 pub fn store(word: u32) -> Option<Insn>
-    ensures { result ≡ store_of word }
+    ensures { result ≡ as_store word }
 {
     let op = store_op(funct3(word))?;
     Some(Insn::Store {
@@ -109,7 +116,7 @@ fn alu_imm_of(op: ImmOp, word: u32, imm: i64) -> Insn
 
 /// An operation on 64 bits and an immediate.
 pub fn alu_imm(word: u32) -> Option<Insn>
-    ensures { result ≡ alu_imm_of word }
+    ensures { result ≡ as_alu_imm word }
 {
     let (imm, shift) = (i_immediate(word), amount(word));
     match (funct6(word), funct3(word)) {
@@ -128,7 +135,7 @@ pub fn alu_imm(word: u32) -> Option<Insn>
 
 /// An operation on the low 32 bits and an immediate.
 pub fn alu_imm_word(word: u32) -> Option<Insn>
-    ensures { result ≡ alu_imm_word_of word }
+    ensures { result ≡ as_alu_imm_word word }
 {
     let shift = i64::from(rs2(word));
     match (funct7(word), funct3(word)) {
@@ -142,7 +149,7 @@ pub fn alu_imm_word(word: u32) -> Option<Insn>
 
 /// An operation on 64 bits.
 pub fn alu(word: u32) -> Option<Insn>
-    ensures { result ≡ alu_reg_of 0b0110011 word }
+    ensures { result ≡ as_alu 0b0110011 word }
 {
     let op = reg_op(funct7(word), funct3(word))?;
     Some(Insn::Alu {
@@ -155,7 +162,7 @@ pub fn alu(word: u32) -> Option<Insn>
 
 /// An operation on the low 32 bits.
 pub fn alu_word(word: u32) -> Option<Insn>
-    ensures { result ≡ alu_reg_of 0b0111011 word }
+    ensures { result ≡ as_alu 0b0111011 word }
 {
     let op = reg_op_word(funct7(word), funct3(word))?;
     Some(Insn::Alu {

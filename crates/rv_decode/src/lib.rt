@@ -23,7 +23,7 @@ mod words;
 pub use decoding::decode;
 pub use encoding::encode;
 pub use instruction::Insn;
-pub use laws::each_fitting_instruction_has_a_word;
+pub use laws::{each_fitting_instruction_has_a_word, words_are_read_as_what_they_encode};
 pub use operations::{AmoOp, BranchOp, CsrOp, ImmOp, LoadOp, RegOp, StoreOp};
 
 #[cfg(test)]

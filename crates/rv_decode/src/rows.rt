@@ -6,6 +6,7 @@ ghost use Rattle.rv_decode.specs.Operations.{atomic_funct3, reg_row};
 
 use crate::operations::{AmoOp, BranchOp, CsrOp, LoadOp, RegOp, StoreOp};
 
+/// funct3 of a branch.
 pub fn funct3_of_branch(op: BranchOp) -> u32
     ensures is { result ≡ branch_funct3 op }
     ensures fits { result < 2 ^ 3 }
@@ -20,6 +21,7 @@ pub fn funct3_of_branch(op: BranchOp) -> u32
     }
 }
 
+/// funct3 of a load.
 pub fn funct3_of_load(op: LoadOp) -> u32
     ensures is { result ≡ load_funct3 op }
     ensures fits { result < 2 ^ 3 }
@@ -35,6 +37,7 @@ pub fn funct3_of_load(op: LoadOp) -> u32
     }
 }
 
+/// funct3 of a store.
 pub fn funct3_of_store(op: StoreOp) -> u32
     ensures is { result ≡ store_funct3 op }
     ensures fits { result < 2 ^ 3 }
@@ -47,6 +50,7 @@ pub fn funct3_of_store(op: StoreOp) -> u32
     }
 }
 
+/// funct3 of a CSR instruction.
 pub fn funct3_of_csr(op: CsrOp) -> u32
     ensures is { result ≡ csr_funct3 op }
     ensures fits { result < 2 ^ 3 }
@@ -61,6 +65,7 @@ pub fn funct3_of_csr(op: CsrOp) -> u32
     }
 }
 
+/// funct5 of an AMO.
 pub fn funct5_of_amo(op: AmoOp) -> u32
     ensures is { result ≡ amo_funct5 op }
     ensures fits { result < 2 ^ 5 }
@@ -78,6 +83,7 @@ pub fn funct5_of_amo(op: AmoOp) -> u32
     }
 }
 
+/// funct3 of an atomic instruction, on doublewords or on words.
 pub fn funct3_of_width(wide: bool) -> u32
     ensures is { result ≡ atomic_funct3 wide }
     ensures fits { result < 2 ^ 3 }
@@ -105,6 +111,7 @@ impl Row {
     }
 }
 
+/// The columns of an operation on registers.
 pub fn row_of(op: RegOp) -> Row
     ensures funct7 { (result.funct7 ≡ (reg_row op).funct7) × (result.funct7 < 2 ^ 7) }
     ensures funct3 { (result.funct3 ≡ (reg_row op).funct3) × (result.funct3 < 2 ^ 3) }

@@ -1,14 +1,14 @@
 //! Signed numbers in two's complement, of so many bits. The width comes first.
 
 ghost use Rattle.std.specs.Prelude.{◌≡◌, ◌<◌, ◌≤◌, ◌^◌, true};
-ghost use Rattle.rv_decode.specs.Decoding.{signed};
-ghost use Rattle.rv_decode.specs.Formats.{field, IsSigned};
+ghost use Rattle.tandem_base.specs.Signs.{represents};
+ghost use Rattle.rv_decode.specs.Formats.{twos_complement, IsSigned};
 
 /// The number that the bits stand for.
-pub fn signed(bits: u8, n: u32) -> i64
+pub fn represented(bits: u8, n: u32) -> i64
     requires width { (1 ≤ bits) × (bits ≤ 32) }
     requires fits { n < 2 ^ bits }
-    ensures { result ≡ signed bits n }
+    ensures { result ≡ represents bits n }
 {
     let half = 1u64 << (bits - 1);
     if u64::from(n) < half {
@@ -19,10 +19,10 @@ pub fn signed(bits: u8, n: u32) -> i64
 }
 
 /// The bits that stand for the number.
-pub fn field(bits: u8, imm: i64) -> u32
+pub fn twos_complement(bits: u8, imm: i64) -> u32
     requires width { (1 ≤ bits) × (bits ≤ 32) }
     requires fits { IsSigned bits imm }
-    ensures value { result ≡ field bits imm }
+    ensures value { result ≡ twos_complement bits imm }
     ensures fits { result < 2 ^ bits }
 {
     if imm < 0 {

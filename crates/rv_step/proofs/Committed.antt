@@ -19,9 +19,9 @@ use Rattle.rv_decode.specs.declared.instruction.Insn.TheVariants.{Amo}
 use Rattle.rv_step.specs.declared.effect.Outside.{Outside}
 use Rattle.rv_step.specs.Harts.{HartState, with_x}
 use Rattle.rv_step.specs.Steps.{Doing, Done, amo, committed, counter, csr_done, csrs_set, executed, finished, goes}
-use Rattle.rv_step.specs.Steps.{load, lr, one_more}
+use Rattle.rv_step.specs.Steps.{load, lr, incremented}
 use Rattle.rv_step.specs.Steps.{plain, rd_written, register_set, returns, sc, sets_csr, store, trap, traps}
-use Rattle.rv_step.specs.Steps.{writes}
+use Rattle.rv_step.specs.Steps.{writes_rd}
 
 -- one more of the list
 pub csrs_set-next : (csrs : CsrValues) (list : List CsrValue) (k : ℕ) (item : CsrValue) → slice_get list k ≡ Some item
@@ -106,16 +106,17 @@ module _ (hart : HartState) where
   unfolding csrs_set
   goes_is next = refl
 
-  writes_is : (next rd value : ℕ) → committed hart (writes hart next rd value).effect ≡ (writes hart next rd value).hart
+  writes_is : (next rd value : ℕ) → committed hart (writes_rd hart next rd value).effect
+      ≡ (writes_rd hart next rd value).hart
   unfolding csrs_set
   writes_is next rd value =
       ap (λ (r : List ℕ). let h : HartState = record hart
-      { pc = next; registers = r; retired = one_more hart.retired } in h)
+      { pc = next; registers = r; retired = incremented hart.retired } in h)
       (register_written hart.registers rd value)
 
   sets_is : (next rd old number value : ℕ)
-      → committed hart (sets_csr (writes hart next rd old) number value).effect
-      ≡ (sets_csr (writes hart next rd old) number value).hart
+      → committed hart (sets_csr (writes_rd hart next rd old) number value).effect
+      ≡ (sets_csr (writes_rd hart next rd old) number value).hart
   unfolding csrs_set
   sets_is next rd old number value =
       ap
@@ -124,7 +125,7 @@ module _ (hart : HartState) where
         pc = next;
         registers = r;
         csrs = written hart.csrs number (kept number value);
-        retired = one_more hart.retired;
+        retired = incremented hart.retired;
       } in h)
       (register_written hart.registers rd old)
       ∙ ap
@@ -133,7 +134,7 @@ module _ (hart : HartState) where
         pc = next;
         registers = with_x hart.registers rd old;
         csrs = c;
-        retired = one_more hart.retired;
+        retired = incremented hart.retired;
       } in h)
       (kept_twice hart.csrs number value)
 

@@ -6,7 +6,7 @@ use Rattle.std.specs.Prelude.{◌&&◌, not, if◌then◌else◌}
 use Rattle.std.proofs.lemmas.Bool.{and_parts, false≢true, eqb-true, not-false, not-true, leb-true, ltb-true}
 use Rattle.tandem_base.specs.declared.extent.Extent.{Extent}
 use Rattle.elf_image.specs.Images.{Loaded, Holds, word_at}
-use Rattle.csr_file.specs.CsrFile.{is_csr, is_read_only}
+use Rattle.csr_file.specs.CsrFile.{is_implemented, is_read_only}
 use Rattle.rv_decode.specs.Decoding.{decoding}
 use Rattle.rv_decode.specs.Listing.{IsInsn}
 use Rattle.rv_decode.specs.Registers.{writes_csr}
@@ -26,8 +26,10 @@ use Rattle.rv_step.specs.Plans.{PlanOf, accessed, address_of, access_size, doing
 use Rattle.rv_step.specs.Plans.{doing_word, fault_cause, fault_of, illegal, is_held, jumps, misaligned_cause}
 use Rattle.rv_step.specs.Plans.{must_align}
 use Rattle.rv_step.specs.Plans.{plan_fetched, plan_of, plan_seen}
-use Rattle.rv_step.specs.Promises.{HasCsr, IsAlignedAtomic, IsOfKind, IsTarget, extent_of, insn_of, is_call, is_plain}
-use Rattle.rv_step.specs.Promises.{reads_counter, is_load, is_store, is_lr, is_sc, is_amo}
+use Rattle.rv_step.specs.Promises.{HasCsr, IsAlignedAtomic, IsOfKind, IsTarget, planned_extent, planned_insn}
+use Rattle.rv_step.specs.Promises.{is_call, is_plain}
+use Rattle.rv_step.specs.Promises.{reads_counter}
+use Rattle.rv_decode.specs.Kinds.{is_load, is_store, is_lr, is_sc, is_amo}
 use Rattle.rv_step.specs.Steps.{Doing, trap, plain, counter, load, store, lr, sc, amo}
 use Rattle.rv_step.proofs.Held.{has_bytes-each}
 
@@ -44,12 +46,12 @@ IsHeld image (amo insn addr len) = is_held image addr len ≡ true
 
 -- all that a plan promises of what is to do
 pub record Promises (hart : HartState) (image : Loaded) (d : Doing) : Type 0 where
-  pub fits : IfSome (insn_of d) IsInsn
+  pub fits : IfSome (planned_insn d) IsInsn
   pub kind : IsOfKind d
   pub held : IsHeld image d
   pub aligned : IsAlignedAtomic d
-  pub csr : IfSome (insn_of d) HasCsr
-  pub target : IfSome (insn_of d) (IsTarget hart)
+  pub csr : IfSome (planned_insn d) HasCsr
+  pub target : IfSome (planned_insn d) (IsTarget hart)
 
 -- what holds of the value in a Some
 pub at_some : (P : Insn → Type 0) (o : Option Insn) (insn : Insn) → o ≡ Some insn → IfSome o P → P insn
@@ -135,7 +137,8 @@ module _ (hart : HartState) (image : Loaded) (config : Config) where
       choice (λ d. Promises hart image d) (not (is_legal_csr op source number)) (illegal config word) _
       (λ _. traps _ _)
       (λ e.
-      let legal = and_parts (is_csr number) (not (writes_csr op source && is_read_only number)) (not-false _ e) in
+      let legal = and_parts (is_implemented number) (not (writes_csr op source && is_read_only number))
+      (not-false _ e) in
       let csr : HasCsr (Csr op rd source number) = (legal.0, not-true _ legal.1) in
       choice (λ d. Promises hart image d) (is_counter number) (counter (Csr op rd source number))
       (plain (Csr op rd source number))
@@ -204,7 +207,7 @@ held_bytes image extent held x covers =
     has_bytes-each image extent.addr extent.len x parts.1 (leb-true extent.addr x among.0)
     (ltb-true x (extent.addr + extent.len) among.1)
 
-pub extent_held : (image : Loaded) (w : What) → IsHeld image (doing_seen w) → IfSome (extent_of w) (Holds image)
+pub extent_held : (image : Loaded) (w : What) → IsHeld image (doing_seen w) → IfSome (planned_extent w) (Holds image)
 extent_held image (what.Trap cause value) held = tt
 extent_held image (what.Plain insn) held = tt
 extent_held image (what.Counter insn) held = tt
@@ -221,7 +224,7 @@ other_call kind ecall ebreak Ecall e = absurd (false≢true (sym ecall ∙ e))
 other_call kind ecall ebreak Ebreak e = absurd (false≢true (sym ebreak ∙ e))
 other_call kind ecall ebreak _ e = refl
 
-pub no_call : (d : Doing) → IsOfKind d → IfSome (insn_of d) (λ insn. is_call insn ≡ false)
+pub no_call : (d : Doing) → IsOfKind d → IfSome (planned_insn d) (λ insn. is_call insn ≡ false)
 no_call (trap cause value) kind = tt
 no_call (plain insn) kind = other_call is_plain refl refl insn kind
 no_call (counter insn) kind = other_call reads_counter refl refl insn kind
@@ -237,7 +240,7 @@ pub seen : (w : What) (insn : Insn)
     ⊎ (((x : Extent) × (w ≡ what.Load insn x)) ⊎ (((x : Extent) × (w ≡ what.Store insn x))
     ⊎ (((x : Extent) × (w ≡ what.Lr insn x)) ⊎ (((x : Extent) × (w ≡ what.Sc insn x))
     ⊎ ((x : Extent) × (w ≡ what.Amo insn x))))))))
-    → insn_of (doing_seen w) ≡ Some insn
+    → planned_insn (doing_seen w) ≡ Some insn
 seen w insn (inl e) = rw e refl
 seen w insn (inr (inl e)) = rw e refl
 seen w insn (inr (inr (inl e))) = rw e.1 refl

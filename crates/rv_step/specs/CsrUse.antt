@@ -1,6 +1,6 @@
 -- What the CSR instructions read and write (Unprivileged ISA 20191213, sections 9.1 and 10.1).
 use Rattle.std.specs.Prelude.{ℕ, ◌-◌, ◌^◌, ◌==◌, Bool, not, ◌&&◌, ◌||◌, bit_and, bit_or}
-use Rattle.csr_file.specs.CsrFile.{is_csr, is_read_only, read_of}
+use Rattle.csr_file.specs.CsrFile.{is_implemented, is_read_only, read_of}
 use Rattle.tandem_base.specs.CsrNumbers as csr
 use Rattle.csr_file.specs.declared.answers.CsrRead.{CsrRead}
 use Rattle.csr_file.specs.declared.answers.CsrRead.TheVariants as read
@@ -11,7 +11,7 @@ use Rattle.rv_step.specs.Harts.{HartState, x_of}
 
 -- a CSR of this number is there, and it isn't a read-only one that is written
 abbrev pub is_legal_csr : CsrOp → ℕ → ℕ → Bool
-is_legal_csr op source number = is_csr number && not (writes_csr op source && is_read_only number)
+is_legal_csr op source number = is_implemented number && not (writes_csr op source && is_read_only number)
 
 -- the counters whose value is known outside alone
 abbrev pub is_counter : ℕ → Bool

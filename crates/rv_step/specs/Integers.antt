@@ -2,7 +2,7 @@
 use Rattle.std.specs.Prelude.{int_lt, pos, ℕ, ◌+◌, ◌-◌, ◌*◌, ◌/◌, ◌%◌, ◌^◌, ◌==◌, ℤ, Bool, not, nat_lt, bit_and, bit_or}
 use Rattle.std.specs.Prelude.{bit_xor, if◌then◌else◌}
 use Rattle.std.specs.Int.{w64, cast_unsigned, int_div_euclid}
-use Rattle.rv_decode.specs.Formats.{field}
+use Rattle.rv_decode.specs.Formats.{bit_of, twos_complement}
 use Rattle.tandem_base.specs.Signs.{represents, sign_extended}
 use Rattle.tandem_base.specs.Multiplication.{mulh_of, mulhu_of, mulhsu_of}
 use Rattle.tandem_base.specs.Division.{div_of, divu_of, rem_of, remu_of}
@@ -19,10 +19,6 @@ use Rattle.rv_decode.specs.declared.operations.RegOp.TheVariants.{Sllw, Srlw, Sr
 -- one number with a sign is below another
 abbrev pub less_signed : ℕ → ℕ → ℕ → Bool
 less_signed width a b = int_lt (represents width a) (represents width b)
-
--- a test as a number
-abbrev pub number_of_test : Bool → ℕ
-number_of_test test = if test then 1 else 0
 
 -- the low 32 bits
 abbrev pub low_word : ℕ → ℕ
@@ -46,7 +42,7 @@ srl_of a amount = a / 2 ^ amount
 
 -- an arithmetic shift to the right: the number with a sign divided by a power of 2, and rounded down
 abbrev pub sra_of : ℕ → ℕ → ℕ → ℕ
-sra_of width a amount = field width (int_div_euclid (represents width a) (pos (2 ^ amount)))
+sra_of width a amount = twos_complement width (int_div_euclid (represents width a) (pos (2 ^ amount)))
 
 -- two registers: sections 2.4 and 5.2 (the amount of a shift is in the low 6 bits of rs2, or in the
 -- low 5 for a word), 7.1 and 7.2; the W forms work on the low 32 bits, and sign-extend the result
@@ -54,8 +50,8 @@ abbrev pub alu_result : RegOp → ℕ → ℕ → ℕ
 alu_result Add a b = sum_of a b
 alu_result Sub a b = sub_of a b
 alu_result Sll a b = sll_of a (b % 64)
-alu_result Slt a b = number_of_test (less_signed 64 a b)
-alu_result Sltu a b = number_of_test (nat_lt a b)
+alu_result Slt a b = bit_of (less_signed 64 a b)
+alu_result Sltu a b = bit_of (nat_lt a b)
 alu_result Xor a b = bit_xor a b
 alu_result Srl a b = srl_of a (b % 64)
 alu_result Sra a b = sra_of 64 a (b % 64)

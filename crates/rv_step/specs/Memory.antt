@@ -41,16 +41,16 @@ abbrev pub bytes_of : Option (List ℕ) → List ℕ
 bytes_of None = []
 bytes_of (Some bytes) = bytes
 
--- what a load gives of the number it reads: LW, LH and LB sign-extend, LWU, LHU and LBU
+-- what a load gives of the number that it reads: LW, LH and LB sign-extend, LWU, LHU and LBU
 -- zero-extend (sections 2.6 and 5.3)
-abbrev pub loaded : LoadOp → ℕ → ℕ
-loaded Lb number = sign_extended 8 number
-loaded Lh number = sign_extended 16 number
-loaded Lw number = sign_extended 32 number
-loaded Ld number = number
-loaded Lbu number = number
-loaded Lhu number = number
-loaded Lwu number = number
+abbrev pub load_result : LoadOp → ℕ → ℕ
+load_result Lb number = sign_extended 8 number
+load_result Lh number = sign_extended 16 number
+load_result Lw number = sign_extended 32 number
+load_result Ld number = number
+load_result Lbu number = number
+load_result Lhu number = number
+load_result Lwu number = number
 
 -- the low bytes of a value, lowest first
 abbrev pub low_bytes : ℕ → ℕ → List ℕ

@@ -2,7 +2,8 @@
 use Rattle.std.specs.Prelude.{ℕ, ◌≡◌, ◌%◌, Bool, true, false, not, ◌&&◌, IfSome}
 use Rattle.std.specs.Prelude.{Option, Some, None, if◌then◌else◌}
 use Rattle.tandem_base.specs.declared.extent.Extent.{Extent}
-use Rattle.csr_file.specs.CsrFile.{is_csr, is_read_only}
+use Rattle.csr_file.specs.CsrFile.{is_implemented, is_read_only}
+use Rattle.rv_decode.specs.Kinds.{is_load, is_store, is_lr, is_sc, is_amo}
 use Rattle.rv_decode.specs.Registers.{writes_csr}
 use Rattle.rv_decode.specs.declared.instruction.Insn.{Insn}
 use Rattle.rv_decode.specs.declared.instruction.Insn.TheVariants.{Lui, Auipc, Jal, Jalr, Branch, Load, Store, AluImm}
@@ -16,52 +17,27 @@ use Rattle.rv_step.specs.Integers.{is_taken, without_low_bit}
 use Rattle.rv_step.specs.Plans.{access_size}
 use Rattle.rv_step.specs.Steps.{Doing, trap, plain, counter, load, store, lr, sc, amo}
 
--- the instruction, none of a trap
-abbrev pub insn_of : Doing → Option Insn
-insn_of (trap cause value) = None
-insn_of (plain insn) = Some insn
-insn_of (counter insn) = Some insn
-insn_of (load insn addr len) = Some insn
-insn_of (store insn addr len) = Some insn
-insn_of (lr insn addr len) = Some insn
-insn_of (sc insn addr len) = Some insn
-insn_of (amo insn addr len) = Some insn
+-- the instruction that is to be done, none of a trap
+abbrev pub planned_insn : Doing → Option Insn
+planned_insn (trap cause value) = None
+planned_insn (plain insn) = Some insn
+planned_insn (counter insn) = Some insn
+planned_insn (load insn addr len) = Some insn
+planned_insn (store insn addr len) = Some insn
+planned_insn (lr insn addr len) = Some insn
+planned_insn (sc insn addr len) = Some insn
+planned_insn (amo insn addr len) = Some insn
 
--- the bytes that it accesses
-abbrev pub extent_of : What → Option Extent
-extent_of (what.Trap cause value) = None
-extent_of (what.Plain insn) = None
-extent_of (what.Counter insn) = None
-extent_of (what.Load insn extent) = Some extent
-extent_of (what.Store insn extent) = Some extent
-extent_of (what.Lr insn extent) = Some extent
-extent_of (what.Sc insn extent) = Some extent
-extent_of (what.Amo insn extent) = Some extent
-
--- a load, but LR
-abbrev pub is_load : Insn → Bool
-is_load (Load op rd rs1 imm) = true
-is_load _ = false
-
--- a store, but SC
-abbrev pub is_store : Insn → Bool
-is_store (Store op rs1 rs2 imm) = true
-is_store _ = false
-
--- LR
-abbrev pub is_lr : Insn → Bool
-is_lr (Lr wide aq rl rd rs1) = true
-is_lr _ = false
-
--- SC
-abbrev pub is_sc : Insn → Bool
-is_sc (Sc wide aq rl rd rs1 rs2) = true
-is_sc _ = false
-
--- an atomic operation
-abbrev pub is_amo : Insn → Bool
-is_amo (Amo op wide aq rl rd rs1 rs2) = true
-is_amo _ = false
+-- the bytes that a plan accesses
+abbrev pub planned_extent : What → Option Extent
+planned_extent (what.Trap cause value) = None
+planned_extent (what.Plain insn) = None
+planned_extent (what.Counter insn) = None
+planned_extent (what.Load insn extent) = Some extent
+planned_extent (what.Store insn extent) = Some extent
+planned_extent (what.Lr insn extent) = Some extent
+planned_extent (what.Sc insn extent) = Some extent
+planned_extent (what.Amo insn extent) = Some extent
 
 -- a CSR instruction that reads cycle or time
 abbrev pub reads_counter : Insn → Bool
@@ -120,7 +96,7 @@ IsAlignedAtomic (amo insn addr len) = addr % len ≡ 0
 -- the number of a CSR instruction is one of the twelve, and not that of a read-only CSR where it writes
 abbrev pub HasCsr : Insn → Type 0
 HasCsr (Csr op rd source number) =
-    (is_csr number ≡ true) × ((writes_csr op source && is_read_only number) ≡ false)
+    (is_implemented number ≡ true) × ((writes_csr op source && is_read_only number) ≡ false)
 HasCsr _ = Unit {0}
 
 -- where a jump goes, and a branch that is taken

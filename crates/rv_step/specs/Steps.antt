@@ -19,7 +19,7 @@ use Rattle.rv_step.specs.declared.effect.Effect.{Effect}
 use Rattle.rv_step.specs.declared.effect.Outside.{Outside}
 use Rattle.rv_step.specs.Harts.{HartState, x_of, with_x, plus, next_of}
 use Rattle.rv_step.specs.Integers.{alu_result, alu_imm_result, is_taken, without_low_bit}
-use Rattle.rv_step.specs.Memory.{store_size, atomic_size, atomic_width, bytes_of, loaded, low_bytes, amo_of}
+use Rattle.rv_step.specs.Memory.{store_size, atomic_size, atomic_width, bytes_of, load_result, low_bytes, amo_of}
 use Rattle.rv_decode.specs.Registers.{writes_csr}
 use Rattle.rv_step.specs.CsrUse.{operand_of, old_csr, new_csr}
 
@@ -36,9 +36,9 @@ rd_written rd value = if rd == 0 then None else Some (record { number = rd; valu
 abbrev pub csr_value : ℕ → ℕ → CsrValue
 csr_value number value = record { number = number; value = value }
 
--- the count of retired instructions has 64 bits
-abbrev pub one_more : ℕ → ℕ
-one_more retired = (retired + 1) % 2 ^ 64
+-- one more, in 64 bits
+abbrev pub incremented : ℕ → ℕ
+incremented retired = (retired + 1) % 2 ^ 64
 
 -- the report of an instruction that goes on at an address, and writes that register
 abbrev pub reports : ℕ → Option RdValue → Effect
@@ -47,24 +47,24 @@ reports next rd = record { next = next; rd = rd; csrs = []; store = None; trap =
 -- goes on at an address
 abbrev pub goes : HartState → ℕ → Done
 goes hart next = record {
-  hart = record hart { pc = next; retired = one_more hart.retired };
+  hart = record hart { pc = next; retired = incremented hart.retired };
   effect = reports next None;
 }
 
 -- writes a value to rd, and goes on at an address
-abbrev pub writes : HartState → ℕ → ℕ → ℕ → Done
-writes hart next rd value = record {
+abbrev pub writes_rd : HartState → ℕ → ℕ → ℕ → Done
+writes_rd hart next rd value = record {
   hart = record hart {
     pc = next;
     registers = with_x hart.registers rd value;
-    retired = one_more hart.retired;
+    retired = incremented hart.retired;
   };
   effect = reports next (rd_written rd value);
 }
 
 -- the same, and stores bytes at an address
-abbrev pub stores : Done → ℕ → List ℕ → Done
-stores done addr bytes =
+abbrev pub stores_bytes : Done → ℕ → List ℕ → Done
+stores_bytes done addr bytes =
     record done { effect = record done.effect { store = Some (record { addr = addr; bytes = bytes }) } }
 
 -- the same, and writes a CSR
@@ -98,7 +98,7 @@ traps hart cause value =
 abbrev pub returns : HartState → Done
 returns hart =
     let csrs = returned hart.csrs in record {
-      hart = record hart { pc = csrs.mepc; csrs = csrs; retired = one_more hart.retired };
+      hart = record hart { pc = csrs.mepc; csrs = csrs; retired = incremented hart.retired };
       effect = record {
         next = csrs.mepc;
         rd = None;
@@ -112,7 +112,7 @@ returns hart =
 abbrev pub csr_done : HartState → ℕ → CsrOp → ℕ → ℕ → ℕ → Done
 csr_done hart reported op rd source number =
     let old = old_csr hart number reported in
-    let done = writes hart (next_of hart) rd old in
+    let done = writes_rd hart (next_of hart) rd old in
     if writes_csr op source then sets_csr done number (new_csr op old (operand_of hart op source)) else done
 
 -- the number that was loaded
@@ -122,24 +122,24 @@ number_loaded outside = little_endian (bytes_of outside.load)
 -- what an instruction does that raises no trap of its own beside ECALL and EBREAK
 abbrev pub executed : HartState → Outside → Insn → Done
 -- section 2.4: LUI and AUIPC
-executed hart outside (Lui rd imm) = writes hart (next_of hart) rd (cast_unsigned w64 imm)
-executed hart outside (Auipc rd imm) = writes hart (next_of hart) rd (plus hart.pc imm)
+executed hart outside (Lui rd imm) = writes_rd hart (next_of hart) rd (cast_unsigned w64 imm)
+executed hart outside (Auipc rd imm) = writes_rd hart (next_of hart) rd (plus hart.pc imm)
 -- section 2.5: jumps and branches; JALR reads rs1 before it writes rd
-executed hart outside (Jal rd imm) = writes hart (plus hart.pc imm) rd (next_of hart)
+executed hart outside (Jal rd imm) = writes_rd hart (plus hart.pc imm) rd (next_of hart)
 executed hart outside (Jalr rd rs1 imm) =
-    writes hart (without_low_bit (plus (x_of hart rs1) imm)) rd (next_of hart)
+    writes_rd hart (without_low_bit (plus (x_of hart rs1) imm)) rd (next_of hart)
 executed hart outside (Branch op rs1 rs2 imm) =
     goes hart (if is_taken op (x_of hart rs1) (x_of hart rs2) then plus hart.pc imm else next_of hart)
 -- section 2.6: loads and stores
 executed hart outside (Load op rd rs1 imm) =
-    writes hart (next_of hart) rd (loaded op (number_loaded outside))
+    writes_rd hart (next_of hart) rd (load_result op (number_loaded outside))
 executed hart outside (Store op rs1 rs2 imm) =
-    stores (goes hart (next_of hart)) (plus (x_of hart rs1) imm) (low_bytes (x_of hart rs2) (store_size op))
+    stores_bytes (goes hart (next_of hart)) (plus (x_of hart rs1) imm) (low_bytes (x_of hart rs2) (store_size op))
 -- sections 2.4, 5.2, 7.1 and 7.2: integer operations
 executed hart outside (AluImm op rd rs1 imm) =
-    writes hart (next_of hart) rd (alu_imm_result op (x_of hart rs1) imm)
+    writes_rd hart (next_of hart) rd (alu_imm_result op (x_of hart rs1) imm)
 executed hart outside (Alu op rd rs1 rs2) =
-    writes hart (next_of hart) rd (alu_result op (x_of hart rs1) (x_of hart rs2))
+    writes_rd hart (next_of hart) rd (alu_result op (x_of hart rs1) (x_of hart rs2))
 -- section 2.7: a FENCE does nothing to registers
 executed hart outside (Fence fm pred succ rd rs1) = goes hart (next_of hart)
 -- section 2.8: ECALL and EBREAK
@@ -152,16 +152,18 @@ executed hart outside Wfi = goes hart (next_of hart)
 executed hart outside (Csr op rd source number) = csr_done hart outside.reported op rd source number
 -- section 8.2: LR and SC; a failed SC writes the reported value to rd
 executed hart outside (Lr wide aq rl rd rs1) =
-    writes hart (next_of hart) rd (sign_extended (atomic_width wide) (number_loaded outside))
+    writes_rd hart (next_of hart) rd (sign_extended (atomic_width wide) (number_loaded outside))
 executed hart outside (Sc wide aq rl rd rs1 rs2) =
     if outside.stored
-    then stores (writes hart (next_of hart) rd 0) (x_of hart rs1) (low_bytes (x_of hart rs2) (atomic_size wide))
-    else writes hart (next_of hart) rd outside.reported
+    then
+    stores_bytes (writes_rd hart (next_of hart) rd 0) (x_of hart rs1)
+    (low_bytes (x_of hart rs2) (atomic_size wide))
+    else writes_rd hart (next_of hart) rd outside.reported
 -- section 8.4: atomic operations work on the loaded number and the low bits of rs2
 executed hart outside (Amo op wide aq rl rd rs1 rs2) =
     let width = atomic_width wide in
     let old = number_loaded outside % 2 ^ width in
-    stores (writes hart (next_of hart) rd (sign_extended width old)) (x_of hart rs1)
+    stores_bytes (writes_rd hart (next_of hart) rd (sign_extended width old)) (x_of hart rs1)
     (low_bytes (amo_of op width old (x_of hart rs2 % 2 ^ width)) (atomic_size wide))
 
 -- what an instruction is to do: a trap with its cause and its mtval; no access; the read of a
@@ -214,7 +216,7 @@ csrs_set csrs (c ∷ rest) = csrs_set (written csrs c.number c.value) rest
 
 -- the count of retired instructions after a report: a trap retires nothing
 abbrev pub retired_after : ℕ → Option ℕ → ℕ
-retired_after retired None = one_more retired
+retired_after retired None = incremented retired
 retired_after retired (Some cause) = retired
 
 -- a hart that becomes what a report says

@@ -2,7 +2,8 @@
 
 ghost use Rattle.elf_image.specs.Images.{loaded_of};
 ghost use Rattle.std.specs.Prelude.{◌≡◌, ◌<◌, ◌≤◌, ◌^◌, ◌%◌, MatchResult, Some, None, true};
-ghost use Rattle.rv_step.specs.Memory.{load_size, store_size, atomic_size, atomic_width, loaded, low_bytes, amo_of};
+ghost use Rattle.rv_step.specs.Memory.{load_size, store_size, atomic_size, atomic_width, load_result};
+ghost use Rattle.rv_step.specs.Memory.{low_bytes, amo_of};
 ghost use Rattle.rv_step.specs.Harts.{HartState};
 ghost use Rattle.rv_step.specs.Integers.{less_signed};
 ghost use Rattle.rv_step.specs.Plans.{access_fault, access_size, address_of, doing_seen, fault_cause, has_bytes};
@@ -53,7 +54,7 @@ pub fn bytes_atomic(wide: bool) -> u8
 
 /// What a load gives of the number that it reads.
 pub fn load_value(op: LoadOp, number: u64) -> u64
-    ensures { result ≡ loaded op number }
+    ensures { result ≡ load_result op number }
 {
     match op {
         LoadOp::Lb => sext(number, 8),
@@ -188,7 +189,9 @@ pub fn undertaken(insn: Insn, extent: Extent) -> What
 /// The causes that an access may raise.
 #[derive(Clone, Copy, Debug, PartialEq, Eq)]
 pub struct Causes {
+    /// Where it has to be aligned and isn't.
     pub misaligned: u8,
+    /// Where a byte is outside the image.
     pub fault: u8,
 }
 

@@ -30,14 +30,21 @@ pub enum What {
     /// A store, but SC.
     Store(Insn, Extent),
 
+    /// An LR.
     Lr(Insn, Extent),
+
+    /// An SC.
     Sc(Insn, Extent),
+
+    /// An atomic operation.
     Amo(Insn, Extent),
 }
 
-/// The word at a hart's pc, 0 where the fetch fails, and what it is to do.
+/// What the word at a hart's pc is to do.
 #[derive(Clone, Copy, Debug, PartialEq, Eq)]
 pub struct Plan {
+    /// The word at the pc, 0 where the fetch fails.
     pub word: u32,
+    /// What it is to do.
     pub what: What,
 }

@@ -9,7 +9,7 @@ use Rattle.rvwmo_model.specs.declared.answers.Judged.{Judged}
 use Rattle.rvwmo_model.specs.declared.answers.Judged.TheVariants as judged
 use Rattle.rvwmo_model.specs.declared.operations.Op.{Op}
 use Rattle.rvwmo_model.specs.declared.traces.Trace.{Trace}
-use Rattle.rvwmo_model.specs.Order.{loads, stores, covers, reads, writes, precedes, everything}
+use Rattle.rvwmo_model.specs.Order.{loads, stores, has_byte, reads, writes, precedes, everything}
 use Rattle.rvwmo_model.specs.Sources.{source, key_of}
 use Rattle.rvwmo_model.specs.Atomicity.{WritesBlock, IsAfter, IsLate, Intrudes, IsTornAt, InBlock, IntrudesBlock, Torn}
 use Rattle.rvwmo_model.specs.InForm.{InForm}
@@ -77,7 +77,7 @@ module _ (t : Trace) (form : InForm t) where
     on = λ x. both_is _ _ _ _ (itself_is (reads x r))
         (either_is _ _ _ _ (late_is (source t r x) w)
         (some_anywhere _ (λ v. Intrudes t r w v x) t (intrudes_computes r w x)));
-    own = λ x e. (and_parts (loads r) (covers x r) (and_parts (reads x r) _ e).0).1;
+    own = λ x e. (and_parts (loads r) (has_byte x r) (and_parts (reads x r) _ e).0).1;
   }
 
   in_block_is : (r : Op) (x : ℕ) → Decides (in_block t r x) (InBlock t r x)
@@ -87,7 +87,7 @@ module _ (t : Trace) (form : InForm t) where
   block_computes : (r v : Op) → ComputesByte (writes_block t r v) (WritesBlock t r v) v
   block_computes r v = record {
     on = λ x. both_is _ _ _ _ (itself_is (writes x v)) (in_block_is r x);
-    own = λ x e. (and_parts (stores v) (covers x v) (and_parts (writes x v) (in_block t r x) e).0).1;
+    own = λ x e. (and_parts (stores v) (has_byte x v) (and_parts (writes x v) (in_block t r x) e).0).1;
   }
 
   intrudes_block_computes : (r w : Op) → Computes (intrudes_block t r w) (IntrudesBlock t r w) (everything t)

@@ -7,7 +7,7 @@ use Rattle.rvwmo_model.specs.declared.answers.Judged.{Judged}
 use Rattle.rvwmo_model.specs.declared.answers.Judged.TheVariants as judged
 use Rattle.rvwmo_model.specs.declared.operations.Op.{Op}
 use Rattle.rvwmo_model.specs.declared.traces.Trace.{Trace}
-use Rattle.rvwmo_model.specs.Order.{covers}
+use Rattle.rvwmo_model.specs.Order.{has_byte}
 use Rattle.rvwmo_model.specs.ProgramOrder.{insn_of}
 use Rattle.rvwmo_model.specs.Atomicity.{IsPair, IsWithin, Unpaired}
 use Rattle.rvwmo_model.specs.InForm.{InForm}
@@ -23,20 +23,20 @@ use Rattle.rvwmo_model.specs.InsnKinds.{has_stored}
 within_is : (w r : Op) → Decides (is_within w r) (IsWithin w r)
 within_is w r = (
   (λ e x c.
-      elim (cases_Bool (covers x r)) [
+      elim (cases_Bool (has_byte x r)) [
         | inl q ↦ q
         | inr q ↦ absurd (both_ways _ (not_false _ e) ((bytes).1 (x, and_from _ _ c (ap not q))))
       ]),
   λ h. ap not (not_true _ (λ e.
       let x = bytes.0 e in
-      let p = and_parts (covers x.0 w) (not (covers x.0 r)) x.1 in
+      let p = and_parts (has_byte x.0 w) (not (has_byte x.0 r)) x.1 in
       both_ways _ (not_false _ p.1) (h x.0 p.0))),
 )
   where
-    bytes : Decides (some_byte (λ x. covers x w && not (covers x r)) w)
-        ((x : ℕ) × ((covers x w && not (covers x r)) ≡ true))
-    bytes = some_byte_is (λ x. covers x w && not (covers x r)) w
-        (λ x q. (and_parts (covers x w) (not (covers x r)) q).0)
+    bytes : Decides (some_byte (λ x. has_byte x w && not (has_byte x r)) w)
+        ((x : ℕ) × ((has_byte x w && not (has_byte x r)) ≡ true))
+    bytes = some_byte_is (λ x. has_byte x w && not (has_byte x r)) w
+        (λ x q. (and_parts (has_byte x w) (not (has_byte x r)) q).0)
 
 module _ (t : Trace) (form : InForm t) where
   pub pair_is : (r w : Op) → Contains t.ops r → Contains t.ops w → Decides (is_pair t r w) (IsPair t r w)

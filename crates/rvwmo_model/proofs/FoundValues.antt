@@ -7,7 +7,7 @@ use Rattle.rvwmo_model.specs.declared.answers.Judged.{Judged}
 use Rattle.rvwmo_model.specs.declared.answers.Judged.TheVariants as judged
 use Rattle.rvwmo_model.specs.declared.operations.Op.{Op}
 use Rattle.rvwmo_model.specs.declared.traces.Trace.{Trace}
-use Rattle.rvwmo_model.specs.Order.{loads, covers, reads, got_at}
+use Rattle.rvwmo_model.specs.Order.{loads, has_byte, reads, got_at}
 use Rattle.rvwmo_model.specs.Sources.{source, byte_from}
 use Rattle.rvwmo_model.specs.Legal.{WrongValue}
 use Rattle.rvwmo_model.specs.InForm.{InForm}
@@ -28,7 +28,7 @@ module _ (t : Trace) (form : InForm t) where
             record { load_in = hi; loads = p.0; wrong = λ q. both_ways _ (not_false _ p.1) (eq-eqb _ _ q) }),
         λ h. and_from _ _ h.loads (ap not (not_true _ (λ q. h.wrong (eqb-true _ _ q)))),
       );
-      own = λ x e. (and_parts (loads i) (covers x i) (and_parts (reads x i) _ e).0).1;
+      own = λ x e. (and_parts (loads i) (has_byte x i) (and_parts (reads x i) _ e).0).1;
     }
 
     has_wrong_computes : Computes (λ i. is_some (wrong_byte initial t i)) (HasWrong initial t) t.ops

@@ -1,6 +1,7 @@
 pub mod Answered
 pub mod Asked
 pub mod Choices
+pub mod Extents
 pub mod FoundAtomicity
 pub mod FoundOrder
 pub mod FoundPairs

@@ -11,7 +11,7 @@ use Rattle.rvwmo_model.specs.declared.operations.OpKind.TheVariants.{Load, Store
 use Rattle.rvwmo_model.specs.declared.traces.Trace.{Trace}
 use Rattle.rvwmo_model.specs.Order.{kind_loads, kind_stores}
 use Rattle.rvwmo_model.specs.ProgramOrder.{is_one, insn_at}
-use Rattle.rvwmo_model.specs.Rules.{Rule, R1, R2, R3, R4, R5, R6, R7, R8, R9, R10, R11, R12, R13, Holds}
+use Rattle.rvwmo_model.specs.Rules.{Rule, R1, R2, R3, R4, R5, R6, R7, R8, R9, R10, R11, R12, R13, Orders}
 use Rattle.rvwmo_model.specs.Laws.{FenceTso, FenceBySets, as_kind, AmoIsLoadAndStore}
 use Rattle.rvwmo_model.specs.InsnKinds.{in_set, is_tso, fence_orders}
 
@@ -96,11 +96,11 @@ same : (A : Type 0) → (A → A ⊎ A) × (A ⊎ A → A)
 same A = ((λ a. inl a), λ s. elim s [ inl a ↦ a | inr a ↦ a ])
 
 -- as a first operation
-first_both : (k : Rule) (t : Trace) (a b : Op) → Holds k t (as_kind Both a) b
-    ↔ (Holds k t (as_kind Load a) b ⊎ Holds k t (as_kind Store a) b)
-first_both R1 t a b = same (Holds R1 t a b)
+first_both : (k : Rule) (t : Trace) (a b : Op) → Orders k t (as_kind Both a) b
+    ↔ (Orders k t (as_kind Load a) b ⊎ Orders k t (as_kind Store a) b)
+first_both R1 t a b = same (Orders R1 t a b)
 first_both R2 t a b = ((λ h. inl h), λ s. elim s [ inl h ↦ h | inr h ↦ absurd (false≢true h.1) ])
-first_both R3 t a b = same (Holds R3 t a b)
+first_both R3 t a b = same (Orders R3 t a b)
 first_both R4 t a b = (
   (λ h. elim (or_cases _ _ (sym (split h.0) ∙ h.3)) [
     | inl p ↦ inl (h.0, h.1, h.2, p)
@@ -116,19 +116,19 @@ first_both R4 t a b = (
         (insn_at t.insns a.name.hart n) ≡ (is_one (λ w. fence_orders w Load b.kind) (insn_at t.insns a.name.hart n)
         || is_one (λ w. fence_orders w Store b.kind) (insn_at t.insns a.name.hart n))
     split n = one_or _ _ _ (insn_at t.insns a.name.hart n) (λ w. orders_first w b.kind)
-first_both R5 t a b = same (Holds R5 t a b)
-first_both R6 t a b = same (Holds R6 t a b)
-first_both R7 t a b = same (Holds R7 t a b)
-first_both R8 t a b = same (Holds R8 t a b)
-first_both R9 t a b = same (Holds R9 t a b)
-first_both R10 t a b = same (Holds R10 t a b)
-first_both R11 t a b = same (Holds R11 t a b)
-first_both R12 t a b = same (Holds R12 t a b)
-first_both R13 t a b = same (Holds R13 t a b)
+first_both R5 t a b = same (Orders R5 t a b)
+first_both R6 t a b = same (Orders R6 t a b)
+first_both R7 t a b = same (Orders R7 t a b)
+first_both R8 t a b = same (Orders R8 t a b)
+first_both R9 t a b = same (Orders R9 t a b)
+first_both R10 t a b = same (Orders R10 t a b)
+first_both R11 t a b = same (Orders R11 t a b)
+first_both R12 t a b = same (Orders R12 t a b)
+first_both R13 t a b = same (Orders R13 t a b)
 
 -- as a second operation
-second_both : (k : Rule) (t : Trace) (a b : Op) → Holds k t a (as_kind Both b)
-    ↔ (Holds k t a (as_kind Load b) ⊎ Holds k t a (as_kind Store b))
+second_both : (k : Rule) (t : Trace) (a b : Op) → Orders k t a (as_kind Both b)
+    ↔ (Orders k t a (as_kind Load b) ⊎ Orders k t a (as_kind Store b))
 second_both R1 t a b = ((λ h. inr h), λ s. elim s [ inl h ↦ absurd (false≢true h.2) | inr h ↦ h ])
 second_both R2 t a b = ((λ h. inl h), λ s. elim s [ inl h ↦ h | inr h ↦ absurd (false≢true h.2) ])
 second_both R3 t a b = ((λ h. inl h), λ s. elim s [ inl h ↦ h | inr h ↦ absurd (false≢true h.1.2) ])
@@ -147,12 +147,12 @@ second_both R4 t a b = (
         (insn_at t.insns a.name.hart n) ≡ (is_one (λ w. fence_orders w a.kind Load) (insn_at t.insns a.name.hart n)
         || is_one (λ w. fence_orders w a.kind Store) (insn_at t.insns a.name.hart n))
     split n = one_or _ _ _ (insn_at t.insns a.name.hart n) (λ w. orders_second w a.kind)
-second_both R5 t a b = same (Holds R5 t a b)
-second_both R6 t a b = same (Holds R6 t a b)
-second_both R7 t a b = same (Holds R7 t a b)
-second_both R8 t a b = same (Holds R8 t a b)
-second_both R9 t a b = same (Holds R9 t a b)
-second_both R10 t a b = same (Holds R10 t a b)
+second_both R5 t a b = same (Orders R5 t a b)
+second_both R6 t a b = same (Orders R6 t a b)
+second_both R7 t a b = same (Orders R7 t a b)
+second_both R8 t a b = same (Orders R8 t a b)
+second_both R9 t a b = same (Orders R9 t a b)
+second_both R10 t a b = same (Orders R10 t a b)
 second_both R11 t a b = ((λ h. inr h), λ s. elim s [ inl h ↦ absurd (false≢true h.0) | inr h ↦ h ])
 second_both R12 t a b = ((λ h. inl h), λ s. elim s [ inl h ↦ h | inr h ↦ absurd (false≢true h.3.1.2) ])
 second_both R13 t a b = ((λ h. inr h), λ s. elim s [ inl h ↦ absurd (false≢true h.0) | inr h ↦ h ])
@@ -162,8 +162,8 @@ of_kind o e = λ i. record o { kind = sym e i }
 
 pub amo_both : AmoIsLoadAndStore
 amo_both k t a b = record {
-  first = λ e. subst (λ (z : Op). Holds k t z b ↔ (Holds k t (as_kind Load z) b ⊎ Holds k t (as_kind Store z) b))
+  first = λ e. subst (λ (z : Op). Orders k t z b ↔ (Orders k t (as_kind Load z) b ⊎ Orders k t (as_kind Store z) b))
       (of_kind a e) (first_both k t a b);
-  second = λ e. subst (λ (z : Op). Holds k t a z ↔ (Holds k t a (as_kind Load z) ⊎ Holds k t a (as_kind Store z)))
+  second = λ e. subst (λ (z : Op). Orders k t a z ↔ (Orders k t a (as_kind Load z) ⊎ Orders k t a (as_kind Store z)))
       (of_kind b e) (second_both k t a b);
 }

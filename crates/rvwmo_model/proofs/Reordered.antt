@@ -1,5 +1,5 @@
 -- The order of the lists of operations changes no answer.
-use Rattle.std.proofs.Common.{ℕ, ◌/◌, ◌<◌, ◌≡◌, ◌⊎◌, inl, inr, true, false, List, Bool, ◌||◌, Option, Some, None}
+use Rattle.std.proofs.Common.{ℕ, ◌/◌, ◌<◌, ◌≡◌, inl, inr, true, List, Bool, ◌||◌, Option, Some, None}
 use Rattle.std.proofs.Common.{refl, sym, ap, subst, ◌∙◌}
 use Rattle.std.specs.List.{Contains}
 use Rattle.std.proofs.lemmas.List.Elements.{Contains-append_cases, Contains-append_left, Contains-append_right}
@@ -9,17 +9,18 @@ use Rattle.rvwmo_model.specs.declared.answers.Judged.TheVariants as judged
 use Rattle.rvwmo_model.specs.declared.instructions.Retired.{Retired}
 use Rattle.rvwmo_model.specs.declared.operations.Op.{Op}
 use Rattle.rvwmo_model.specs.declared.traces.Trace.{Trace}
-use Rattle.rvwmo_model.specs.Order.{everything, precedes, got_at}
+use Rattle.rvwmo_model.specs.Order.{everything}
 use Rattle.rvwmo_model.specs.ProgramOrder.{insn_at, insn_of, is_one}
-use Rattle.rvwmo_model.specs.Sources.{source, origin_of, origin, byte_from, key_of, IsWriter}
-use Rattle.rvwmo_model.specs.InsnKinds.{is_lr, is_sc, is_amo_or_sc, has_stored, fence_orders}
+use Rattle.rvwmo_model.specs.Sources.{source, origin_of, origin, byte_from, IsWriter}
+use Rattle.rv_decode.specs.Kinds.{is_lr, is_sc, is_amo_or_sc}
+use Rattle.rvwmo_model.specs.InsnKinds.{has_stored, fence_orders}
 use Rattle.rvwmo_model.specs.Flows.{AddressDep, DataDep, BranchDep}
-use Rattle.rvwmo_model.specs.Rules.{SomeBetween, StoresTo, ReadsFrom, Paired, Holds, Broken, Rule}
+use Rattle.rvwmo_model.specs.Rules.{SomeBetween, StoresTo, ReadsFrom, Paired, Orders, Broken, Rule}
 use Rattle.rvwmo_model.specs.Rules.{R1, R2, R3, R4, R5, R6, R7, R8, R9, R10, R11, R12, R13}
 use Rattle.rvwmo_model.specs.Atomicity.{IsPair, Unpaired, IsAfter, IsLate, Intrudes, IsTornAt, WritesBlock}
 use Rattle.rvwmo_model.specs.Atomicity.{IntrudesBlock, Torn}
-use Rattle.rvwmo_model.specs.Legal.{WrongValue, Legal}
-use Rattle.rvwmo_model.specs.Report.{number, IsLeast, IsLowest, IsLatest, IsSecond, IsReported, HasWrong, IsTorn}
+use Rattle.rvwmo_model.specs.Legal.{WrongValue}
+use Rattle.rvwmo_model.specs.Report.{IsLeast, IsLowest, IsLatest, IsSecond, IsReported, HasWrong, IsTorn}
 use Rattle.rvwmo_model.specs.Report.{IsForeign, Blamed, late, foreign, Shown, byte, block, AllPaired, AllRight}
 use Rattle.rvwmo_model.specs.Report.{AllOrdered, IsAnswer}
 use Rattle.rvwmo_model.specs.InForm.{InForm}
@@ -131,7 +132,7 @@ module _ (t t' : Trace) (a : Alike t t') (z : Alike t' t) where
   branch_on : (h j i : ℕ) → BranchDep t.insns h j i → BranchDep t'.insns h j i
   branch_on h j i d = subst (λ (l : List Retired). BranchDep l h j i) (sym a.insns) d
 
-  holds_on : (k : Rule) (b c : Op) → Holds k t b c → Holds k t' b c
+  holds_on : (k : Rule) (b c : Op) → Orders k t b c → Orders k t' b c
   holds_on R1 b c h = h
   holds_on R2 b c h = (
     h.0,

@@ -1,5 +1,5 @@
 -- At most one pair is reported.
-use Rattle.std.proofs.Common.{◌<◌, ◌≡◌, ◌⊎◌, inl, inr, false, sym, subst, arith, [], ◌∷◌}
+use Rattle.std.proofs.Common.{◌<◌, ◌≡◌, ◌⊎◌, inl, inr, sym, subst, arith}
 use Rattle.std.proofs.lemmas.Bool.{cases_order}
 use Rattle.std.proofs.lemmas.List.Elements.{Contains-append_left}
 use Rattle.rvwmo_model.specs.declared.operations.Op.{Op}

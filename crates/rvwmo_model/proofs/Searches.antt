@@ -1,13 +1,14 @@
 -- What searches through lists and addresses find.
-use Rattle.std.proofs.Common.{ℕ, zero, suc, ◌+◌, ◌-◌, ◌<◌, ◌≤◌, ◌≡◌, ◌⊎◌, inl, inr, Bool, true, false, not, List, []}
+use Rattle.std.proofs.Common.{ℕ, zero, suc, ◌+◌, ◌<◌, ◌≤◌, ◌≡◌, ◌⊎◌, inl, inr, Bool, true, false, not, List, []}
 use Rattle.std.proofs.Common.{◌∷◌}
-use Rattle.std.proofs.Common.{◌&&◌, cond, leb, ltb, Option, Some, None, refl, sym, ap, subst, ◌∙◌, arith}
+use Rattle.std.proofs.Common.{cond, Option, Some, None, refl, sym, ap, subst, ◌∙◌, arith}
 use Rattle.std.specs.Bool.{Decides}
 use Rattle.std.specs.List.{Contains, filter, list_any}
 use Rattle.std.proofs.lemmas.Bool.{cases_Bool, cases_order, both_ways, or_cases, or_left, or_right, and_parts}
-use Rattle.std.proofs.lemmas.Bool.{leb-true, ltb-true}
 use Rattle.rvwmo_model.specs.declared.operations.Op.{Op}
-use Rattle.rvwmo_model.specs.Order.{named_before, covers}
+use Rattle.tandem_base.specs.Extents.{is_among}
+use Rattle.rvwmo_model.proofs.Extents.{bounds_of}
+use Rattle.rvwmo_model.specs.Order.{named_before, has_byte}
 use Rattle.rvwmo_model.specs.Search.{some_at, first_at, or_address, some_byte, first_byte, better_of, best_from}
 use Rattle.rvwmo_model.specs.Answer.{is_named_first, least_of}
 use Rattle.rvwmo_model.proofs.Membership.{nothing_in, head_in, tail_in, first_in, in_cases, in_filter, from_filter}
@@ -102,17 +103,12 @@ first_at_is p addr (suc n) = first_more p addr n (first_at p addr n) (first_at_i
 -- ---- bytes
 
 -- a byte of an operation lies in its extent
-pub covered : (o : Op) (x : ℕ) → covers x o ≡ true → (o.extent.addr ≤ x) × (x < o.extent.addr + o.extent.len)
-covered o x q =
-    let p = and_parts (leb o.extent.addr x && ltb (x - o.extent.addr) o.extent.len) _ q in
-    let r = and_parts (leb o.extent.addr x) (ltb (x - o.extent.addr) o.extent.len) p.0 in
-    let l : o.extent.addr ≤ x = leb-true o.extent.addr x r.0 in
-    let m : x - o.extent.addr < o.extent.len = ltb-true (x - o.extent.addr) o.extent.len r.1 in
-    (l, omega arith)
+pub covered : (o : Op) (x : ℕ) → has_byte x o ≡ true → (o.extent.addr ≤ x) × (x < o.extent.addr + o.extent.len)
+covered o x q = bounds_of o.extent x (and_parts (is_among o.extent.addr o.extent.len x) _ q).0
 
 -- what passes is a byte of the operation
 abbrev pub OfOp : (ℕ → Bool) → Op → Type 0
-OfOp p o = (x : ℕ) → p x ≡ true → covers x o ≡ true
+OfOp p o = (x : ℕ) → p x ≡ true → has_byte x o ≡ true
 
 pub some_byte_is : (p : ℕ → Bool) (o : Op) → OfOp p o → Decides (some_byte p o) ((x : ℕ) × (p x ≡ true))
 some_byte_is p o own = (

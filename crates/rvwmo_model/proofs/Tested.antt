@@ -1,5 +1,5 @@
 -- Each test computes its word of the definitions.
-use Rattle.std.proofs.Common.{ℕ, ◌+◌, ◌-◌, ◌<◌, ◌≡◌, ◌≢◌, ◌⊎◌, inl, inr, Bool, true, false, not, eqb, ltb, ◌&&◌, ◌||◌}
+use Rattle.std.proofs.Common.{ℕ, ◌+◌, ◌-◌, ◌<◌, ◌≡◌, ◌≢◌, ◌⊎◌, inl, inr, Bool, true, not, eqb, ltb, ◌&&◌, ◌||◌}
 use Rattle.std.proofs.Common.{Option, Some, None, refl, sym, ap, subst, ◌∙◌, arith}
 use Rattle.std.specs.Bool.{Decides}
 use Rattle.std.proofs.lemmas.List.Elements.{Contains-append_left, Contains-append_right}
@@ -13,25 +13,26 @@ use Rattle.rvwmo_model.specs.declared.judge.walk.Use.{Use}
 use Rattle.rvwmo_model.specs.declared.judge.walk.Use.TheVariants.{Address, Data, Control}
 use Rattle.rvwmo_model.specs.declared.operations.Op.{Op}
 use Rattle.rvwmo_model.specs.declared.traces.Trace.{Trace}
-use Rattle.rvwmo_model.specs.Order.{everything, standing, loads, stores, covers, reads, writes, precedes}
+use Rattle.rvwmo_model.specs.Order.{everything, standing, loads, stores, has_byte, reads, writes, precedes}
 use Rattle.rvwmo_model.specs.ProgramOrder.{insn_at, insn_of, is_one}
 use Rattle.rvwmo_model.specs.Sources.{source, origin}
 use Rattle.rvwmo_model.specs.Flows.{DependsBy}
 use Rattle.rvwmo_model.specs.Rules.{SomeBetween, StoresTo, ReadsFrom, Reserves, Paired, AddressOn, DataOn, Overlap}
-use Rattle.rvwmo_model.specs.Rules.{ReadApart, ReadsDependent, Holds, Broken, Rule, R1, R2, R3, R4, R5, R6, R7, R8}
+use Rattle.rvwmo_model.specs.Rules.{ReadApart, ReadsDependent, Orders, Broken, Rule, R1, R2, R3, R4, R5, R6, R7, R8}
 use Rattle.rvwmo_model.specs.Rules.{R9, R10, R11, R12, R13}
 use Rattle.rvwmo_model.specs.InForm.{AreRising, InForm}
 use Rattle.rvwmo_model.specs.Walk.{use_of}
 use Rattle.rvwmo_model.specs.Tests.{is_between, overlap, same_origin, store_between, read_apart_at, read_apart}
 use Rattle.rvwmo_model.specs.Tests.{stands_with, is_operation, is_store_of, reads_from, parts_pair, is_pair_of}
-use Rattle.rvwmo_model.specs.Tests.{depends_at, depends_between, is_dependent, reads_dependent, holds, is_broken}
+use Rattle.rvwmo_model.specs.Tests.{depends_at, depends_between, is_dependent, reads_dependent, orders, is_broken}
 use Rattle.rvwmo_model.proofs.Searches.{some_is, not_true, not_false, some_byte_is}
 use Rattle.rvwmo_model.proofs.Latest.{source_is}
 use Rattle.rvwmo_model.proofs.Orders.{before_self}
 use Rattle.rvwmo_model.proofs.Totality.{stand_alike}
 use Rattle.rvwmo_model.proofs.LookUp.{found_in, named_self}
 use Rattle.rvwmo_model.proofs.Walks.{finds_is}
-use Rattle.rvwmo_model.specs.InsnKinds.{is_amo_or_sc, is_lr, is_sc, fence_orders}
+use Rattle.rv_decode.specs.Kinds.{is_amo_or_sc, is_lr, is_sc}
+use Rattle.rvwmo_model.specs.InsnKinds.{fence_orders}
 
 -- ---- tests of tests
 
@@ -117,14 +118,14 @@ between_by test t a b rising = (
 
 -- ---- the rules
 
-covers_of_reads : (x : ℕ) (o : Op) → reads x o ≡ true → covers x o ≡ true
-covers_of_reads x o e = (and_parts (loads o) (covers x o) e).1
+covers_of_reads : (x : ℕ) (o : Op) → reads x o ≡ true → has_byte x o ≡ true
+covers_of_reads x o e = (and_parts (loads o) (has_byte x o) e).1
 
 overlap_is : (a b : Op) → Decides (overlap a b) (Overlap a b)
 overlap_is a b =
     through (overlap a b) _ (Overlap a b)
-    (some_byte_is (λ x. covers x a && writes x b) a (λ x q. (and_parts (covers x a) (writes x b) q).0))
-    (λ h. let p = and_parts (covers h.0 a) (writes h.0 b) h.1 in (h.0, p.0, p.1)) (λ h. (h.0, and_from _ _ h.1 h.2))
+    (some_byte_is (λ x. has_byte x a && writes x b) a (λ x q. (and_parts (has_byte x a) (writes x b) q).0))
+    (λ h. let p = and_parts (has_byte h.0 a) (writes h.0 b) h.1 in (h.0, p.0, p.1)) (λ h. (h.0, and_from _ _ h.1 h.2))
 
 store_between_is : (t : Trace) (a b : Op) (x : ℕ) → Decides (list_any (store_between a b x) t.ops)
     (SomeBetween (StoresTo t a.name.hart x) a b)
@@ -310,7 +311,7 @@ reads_dependent_is t a b form =
 
 -- each test of a rule computes the rule
 pub holds_is : (k : Rule) (t : Trace) (a b : Op) → InForm t → a.name.tag < b.name.tag
-    → Decides (holds k t a b) (Holds k t a b)
+    → Decides (orders k t a b) (Orders k t a b)
 holds_is R1 t a b form lt = overlap_is a b
 holds_is R2 t a b form lt = read_apart_is t a b
 holds_is R3 t a b form lt = both_is _ _ _ _ (itself_is (is_one is_amo_or_sc (insn_of t a)))
@@ -331,7 +332,7 @@ pub broken_is : (k : Rule) (t : Trace) (a b : Op) → InForm t → Contains t.op
     → Decides (is_broken k t a b) (Broken k t a b)
 broken_is k t a b form ha hb = (
   (λ e.
-      let p = and_parts ((eqb b.name.hart a.name.hart && ltb a.name.tag b.name.tag) && precedes b a) (holds k t a b)
+      let p = and_parts ((eqb b.name.hart a.name.hart && ltb a.name.tag b.name.tag) && precedes b a) (orders k t a b)
       e in
       let q = and_parts (eqb b.name.hart a.name.hart && ltb a.name.tag b.name.tag) (precedes b a) p.0 in
       let r = and_parts (eqb b.name.hart a.name.hart) (ltb a.name.tag b.name.tag) q.0 in

@@ -1,6 +1,6 @@
 -- A trace has one answer.
 use Rattle.std.proofs.Common.{ℕ, ◌<◌, ◌≡◌, inl, inr, true, ◌||◌, Option, Some, None, sym, ap, subst, ◌∙◌, arith}
-use Rattle.std.proofs.lemmas.Bool.{cases_order, both_ways, or_left}
+use Rattle.std.proofs.lemmas.Bool.{cases_order, or_left}
 use Rattle.std.specs.List.{Contains}
 use Rattle.tandem_base.specs.declared.names.OpName.{OpName}
 use Rattle.tandem_base.specs.declared.names.Origin.{Origin}
@@ -25,7 +25,7 @@ use Rattle.rvwmo_model.proofs.Reports.{report_one}
 use Rattle.rvwmo_model.proofs.Tested.{one_some}
 use Rattle.rvwmo_model.proofs.Totality.{one_name, stand_alike}
 use Rattle.rvwmo_model.proofs.LookUp.{found_in}
-use Rattle.rvwmo_model.specs.InsnKinds.{is_lr, is_sc}
+use Rattle.rv_decode.specs.Kinds.{is_lr, is_sc}
 
 least_one : (t : Trace) (P : Op → Type 0) (a b : Op) → InForm t → ((o : Op) → P o → Contains t.ops o) → IsLeast P a
     → IsLeast P b → a ≡ b

@@ -4,7 +4,7 @@ use Rattle.std.specs.List.{Contains}
 use Rattle.std.specs.declared.option.Option.{Option}
 use Rattle.rvwmo_model.specs.declared.operations.Op.{Op}
 use Rattle.rvwmo_model.specs.declared.traces.Trace.{Trace}
-use Rattle.rvwmo_model.specs.Order.{everything, covers, reads, writes, precedes}
+use Rattle.rvwmo_model.specs.Order.{everything, has_byte, reads, writes, precedes}
 use Rattle.rvwmo_model.specs.ProgramOrder.{insn_of}
 use Rattle.rvwmo_model.specs.Sources.{source}
 use Rattle.rvwmo_model.specs.InsnKinds.{has_stored}
@@ -21,7 +21,7 @@ pub record IsPair (t : Trace) (r w : Op) : Type 0 where
 
 -- each byte of w is one of r
 abbrev pub IsWithin : Op → Op → Type 0
-IsWithin w r = (x : ℕ) → covers x w ≡ true → covers x r ≡ true
+IsWithin w r = (x : ℕ) → has_byte x w ≡ true → has_byte x r ≡ true
 
 -- w is of a successful SC that has no pair whose bytes contain its own
 pub record Unpaired (t : Trace) (w : Op) : Type 0 where

@@ -8,7 +8,8 @@ use Rattle.rvwmo_model.specs.declared.operations.Op.{Op}
 use Rattle.rvwmo_model.specs.declared.traces.Trace.{Trace}
 use Rattle.rvwmo_model.specs.Order.{everything}
 use Rattle.rvwmo_model.specs.ProgramOrder.{insn_of, is_one}
-use Rattle.rvwmo_model.specs.InsnKinds.{is_lr, has_stored}
+use Rattle.rv_decode.specs.Kinds.{is_lr}
+use Rattle.rvwmo_model.specs.InsnKinds.{has_stored}
 
 -- the instructions of each hart rise strictly by tag
 abbrev pub AreRising : List Retired → Type 0

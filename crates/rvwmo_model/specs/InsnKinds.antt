@@ -1,27 +1,12 @@
 -- Which instructions the memory model speaks of.
-use Rattle.std.specs.Prelude.{ℕ, ◌/◌, ◌%◌, ◌==◌, ◌&&◌, ◌||◌, Bool, true, false, None, Some, if◌then◌else◌}
+use Rattle.std.specs.Prelude.{ℕ, ◌/◌, ◌%◌, ◌==◌, ◌&&◌, ◌||◌, Bool, false, None, Some, if◌then◌else◌}
 use Rattle.std.specs.declared.option.Option.{Option}
 use Rattle.rv_decode.specs.declared.instruction.Insn.{Insn}
-use Rattle.rv_decode.specs.declared.instruction.Insn.TheVariants.{Fence, Lr, Sc, Amo}
+use Rattle.rv_decode.specs.declared.instruction.Insn.TheVariants.{Fence}
+use Rattle.rv_decode.specs.Kinds.{is_sc}
 use Rattle.rvwmo_model.specs.declared.instructions.Retired.{Retired}
 use Rattle.rvwmo_model.specs.declared.operations.OpKind.{OpKind}
 use Rattle.rvwmo_model.specs.Order.{kind_loads, kind_stores}
-
--- an LR
-abbrev pub is_lr : Insn → Bool
-is_lr (Lr wide aq rl rd rs1) = true
-is_lr _ = false
-
--- an SC
-abbrev pub is_sc : Insn → Bool
-is_sc (Sc wide aq rl rd rs1 rs2) = true
-is_sc _ = false
-
--- an AMO or SC
-abbrev pub is_amo_or_sc : Insn → Bool
-is_amo_or_sc (Sc wide aq rl rd rs1 rs2) = true
-is_amo_or_sc (Amo op wide aq rl rd rs1 rs2) = true
-is_amo_or_sc _ = false
 
 -- an SC that succeeded
 abbrev pub has_stored : Option Retired → Bool

@@ -10,7 +10,7 @@ use Rattle.rvwmo_model.specs.declared.traces.Trace.{Trace}
 use Rattle.rvwmo_model.specs.Order.{everything, kind_loads, kind_stores, precedes}
 use Rattle.rvwmo_model.specs.Sources.{source, IsWriter}
 use Rattle.rvwmo_model.specs.Dependencies.{Flow, Dep, Reach}
-use Rattle.rvwmo_model.specs.Rules.{Rule, Holds, Broken}
+use Rattle.rvwmo_model.specs.Rules.{Rule, Orders, Broken}
 use Rattle.rvwmo_model.specs.InsnKinds.{in_set, fence_orders}
 use Rattle.rvwmo_model.specs.InForm.{InForm}
 use Rattle.rvwmo_model.specs.declared.answers.Judged.{Judged}
@@ -56,8 +56,8 @@ as_kind kind o = record o { kind = kind }
 
 -- in every rule an AMO stands as the load and as the store that it is
 pub record IsLoadAndStore (k : Rule) (t : Trace) (a b : Op) : Type 0 where
-  pub first : a.kind ≡ Both → Holds k t a b ↔ (Holds k t (as_kind Load a) b ⊎ Holds k t (as_kind Store a) b)
-  pub second : b.kind ≡ Both → Holds k t a b ↔ (Holds k t a (as_kind Load b) ⊎ Holds k t a (as_kind Store b))
+  pub first : a.kind ≡ Both → Orders k t a b ↔ (Orders k t (as_kind Load a) b ⊎ Orders k t (as_kind Store a) b)
+  pub second : b.kind ≡ Both → Orders k t a b ↔ (Orders k t a (as_kind Load b) ⊎ Orders k t a (as_kind Store b))
 
 -- it does so in each rule
 abbrev pub AmoIsLoadAndStore : Type 0

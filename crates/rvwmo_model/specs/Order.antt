@@ -1,9 +1,10 @@
 -- The global order of operations, and the bytes of an operation.
-use Rattle.std.specs.Prelude.{ℕ, ◌-◌, ◌/◌, ◌%◌, ◌^◌, ◌==◌, ◌&&◌, ◌||◌, nat_lt, nat_le, List, ◌++◌, Bool, true, false}
+use Rattle.std.specs.Prelude.{ℕ, ◌-◌, ◌/◌, ◌%◌, ◌^◌, ◌==◌, ◌&&◌, ◌||◌, nat_lt, List, ◌++◌, Bool, true, false}
 use Rattle.std.specs.Prelude.{None, Some, slice_index}
 use Rattle.std.specs.declared.option.Option.{Option}
 use Rattle.tandem_base.specs.declared.names.OpName.{OpName}
 use Rattle.tandem_base.specs.declared.names.Place.{Place}
+use Rattle.tandem_base.specs.Extents.{is_among}
 use Rattle.tandem_base.specs.Places.{earlier}
 use Rattle.rvwmo_model.specs.declared.operations.Op.{Op}
 use Rattle.rvwmo_model.specs.declared.operations.OpKind.{OpKind}
@@ -68,18 +69,16 @@ abbrev pub stores : Op → Bool
 stores o = kind_stores o.kind
 
 -- the byte at x is one of the operation's: it lies in the extent, and its bit of the mask is set
-abbrev pub covers : ℕ → Op → Bool
-covers x o =
-    nat_le o.extent.addr x && nat_lt (x - o.extent.addr) o.extent.len
-    && ((o.mask / 2 ^ (x - o.extent.addr)) % 2 == 1)
+abbrev pub has_byte : ℕ → Op → Bool
+has_byte x o = is_among o.extent.addr o.extent.len x && ((o.mask / 2 ^ (x - o.extent.addr)) % 2 == 1)
 
 -- the operation stores to the byte at x
 abbrev pub writes : ℕ → Op → Bool
-writes x o = stores o && covers x o
+writes x o = stores o && has_byte x o
 
 -- the operation loads the byte at x
 abbrev pub reads : ℕ → Op → Bool
-reads x o = loads o && covers x o
+reads x o = loads o && has_byte x o
 
 -- what the operation loaded from the byte at x
 abbrev pub got_at : Op → ℕ → ℕ

@@ -7,11 +7,12 @@ pub use Rattle.rvwmo_model.specs.declared.preserved.Rule.{Rule}
 pub use Rattle.rvwmo_model.specs.declared.preserved.Rule.TheVariants.{R1, R2, R3, R4, R5, R6, R7, R8, R9, R10, R11}
 pub use Rattle.rvwmo_model.specs.declared.preserved.Rule.TheVariants.{R12, R13}
 use Rattle.rvwmo_model.specs.declared.traces.Trace.{Trace}
-use Rattle.rvwmo_model.specs.Order.{stores, covers, reads, writes, precedes}
+use Rattle.rvwmo_model.specs.Order.{stores, has_byte, reads, writes, precedes}
 use Rattle.rvwmo_model.specs.ProgramOrder.{insn_at, insn_of, is_one}
 use Rattle.rvwmo_model.specs.Sources.{source, origin}
 use Rattle.rvwmo_model.specs.Flows.{AddressDep, DataDep, BranchDep}
-use Rattle.rvwmo_model.specs.InsnKinds.{is_lr, is_sc, is_amo_or_sc, fence_orders}
+use Rattle.rv_decode.specs.Kinds.{is_lr, is_sc, is_amo_or_sc}
+use Rattle.rvwmo_model.specs.InsnKinds.{fence_orders}
 use Rattle.rvwmo_model.specs.Annotations.{is_annotated, has_rcsc}
 
 -- ---- the words of the rules
@@ -61,7 +62,7 @@ BranchOn t a k = BranchDep t.insns a.name.hart k a.name.tag
 
 -- 1: b is a store, and a and b access overlapping memory addresses
 abbrev pub Overlap : Op → Op → Type 0
-Overlap a b = (x : ℕ) × (covers x a ≡ true) × (writes x b ≡ true)
+Overlap a b = (x : ℕ) × (has_byte x a ≡ true) × (writes x b ≡ true)
 
 -- 2: a and b are loads, x is a byte read by both a and b, there is no store to x between a and b in program order, and
 -- a and b return values for x written by different memory operations
@@ -123,20 +124,20 @@ AddressBetween t a b = (stores b ≡ true) × SomeBetween (AddressOn t a) a b
 -- ---- the order
 
 -- rule k puts a before b
-abbrev pub Holds : Rule → Trace → Op → Op → Type 0
-Holds R1 t a b = Overlap a b
-Holds R2 t a b = ReadApart t a b
-Holds R3 t a b = ReadsAtomic t a b
-Holds R4 t a b = Fenced t a b
-Holds R5 t a b = Acquires a
-Holds R6 t a b = Releases b
-Holds R7 t a b = BothRcsc a b
-Holds R8 t a b = Paired t a b
-Holds R9 t a b = AddressFrom t a b
-Holds R10 t a b = DataFrom t a b
-Holds R11 t a b = ControlFrom t a b
-Holds R12 t a b = ReadsDependent t a b
-Holds R13 t a b = AddressBetween t a b
+abbrev pub Orders : Rule → Trace → Op → Op → Type 0
+Orders R1 t a b = Overlap a b
+Orders R2 t a b = ReadApart t a b
+Orders R3 t a b = ReadsAtomic t a b
+Orders R4 t a b = Fenced t a b
+Orders R5 t a b = Acquires a
+Orders R6 t a b = Releases b
+Orders R7 t a b = BothRcsc a b
+Orders R8 t a b = Paired t a b
+Orders R9 t a b = AddressFrom t a b
+Orders R10 t a b = DataFrom t a b
+Orders R11 t a b = ControlFrom t a b
+Orders R12 t a b = ReadsDependent t a b
+Orders R13 t a b = AddressBetween t a b
 
 -- a precedes b in preserved program order by rule k, and doesn't in the global memory order
 pub record Broken (k : Rule) (t : Trace) (a b : Op) : Type 0 where
@@ -144,5 +145,5 @@ pub record Broken (k : Rule) (t : Trace) (a b : Op) : Type 0 where
   pub second_in : Contains t.ops b
   pub one_hart : b.name.hart ≡ a.name.hart
   pub in_order : a.name.tag < b.name.tag
-  pub rule : Holds k t a b
+  pub rule : Orders k t a b
   pub against : precedes b a ≡ true

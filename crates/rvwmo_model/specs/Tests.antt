@@ -8,11 +8,12 @@ use Rattle.rvwmo_model.specs.declared.judge.walk.Use.{Use}
 use Rattle.rvwmo_model.specs.declared.judge.walk.Use.TheVariants.{Address, Data, Control}
 use Rattle.rvwmo_model.specs.declared.operations.Op.{Op}
 use Rattle.rvwmo_model.specs.declared.traces.Trace.{Trace}
-use Rattle.rvwmo_model.specs.Order.{stores, covers, reads, writes, precedes, got_at}
+use Rattle.rvwmo_model.specs.Order.{stores, has_byte, reads, writes, precedes, got_at}
 use Rattle.rvwmo_model.specs.ProgramOrder.{insn_of, is_one}
 use Rattle.rvwmo_model.specs.Sources.{latest_from, source, byte_from, origin}
 use Rattle.rvwmo_model.specs.Rules.{Rule, R1, R2, R3, R4, R5, R6, R7, R8, R9, R10, R11, R12, R13}
-use Rattle.rvwmo_model.specs.InsnKinds.{is_lr, is_sc, is_amo_or_sc, has_stored, fence_orders}
+use Rattle.rv_decode.specs.Kinds.{is_lr, is_sc, is_amo_or_sc}
+use Rattle.rvwmo_model.specs.InsnKinds.{has_stored, fence_orders}
 use Rattle.rvwmo_model.specs.Annotations.{is_annotated, has_rcsc}
 use Rattle.rvwmo_model.specs.Search.{some_byte, first_byte}
 use Rattle.rvwmo_model.specs.Walk.{finds}
@@ -25,7 +26,7 @@ is_between a b hart tag = (hart == a.name.hart) && nat_lt a.name.tag tag && nat_
 
 -- rule 1
 abbrev pub overlap : Op → Op → Bool
-overlap a b = some_byte (λ x. covers x a && writes x b) a
+overlap a b = some_byte (λ x. has_byte x a && writes x b) a
 
 -- sources are the same
 abbrev pub same_origin : Option Origin → Option Origin → Bool
@@ -108,24 +109,24 @@ abbrev pub reads_dependent : Trace → Op → Op → Bool
 reads_dependent t a b = some_byte (λ x. reads x b && is_dependent t a b (source t b x)) b
 
 -- rule k puts a before b
-abbrev pub holds : Rule → Trace → Op → Op → Bool
-holds R1 t a b = overlap a b
-holds R2 t a b = read_apart t a b
-holds R3 t a b = reads_atomic t a b
-holds R4 t a b = fenced t a b
-holds R5 t a b = is_annotated a.acquire
-holds R6 t a b = is_annotated b.release
-holds R7 t a b = has_rcsc a && has_rcsc b
-holds R8 t a b = is_pair_of t a b
-holds R9 t a b = depends_at Address t a b.name.tag
-holds R10 t a b = depends_at Data t a b.name.tag
-holds R11 t a b = stores b && depends_between Control t a b
-holds R12 t a b = reads_dependent t a b
-holds R13 t a b = stores b && depends_between Address t a b
+abbrev pub orders : Rule → Trace → Op → Op → Bool
+orders R1 t a b = overlap a b
+orders R2 t a b = read_apart t a b
+orders R3 t a b = reads_atomic t a b
+orders R4 t a b = fenced t a b
+orders R5 t a b = is_annotated a.acquire
+orders R6 t a b = is_annotated b.release
+orders R7 t a b = has_rcsc a && has_rcsc b
+orders R8 t a b = is_pair_of t a b
+orders R9 t a b = depends_at Address t a b.name.tag
+orders R10 t a b = depends_at Data t a b.name.tag
+orders R11 t a b = stores b && depends_between Control t a b
+orders R12 t a b = reads_dependent t a b
+orders R13 t a b = stores b && depends_between Address t a b
 
 -- and b comes before a
 abbrev pub is_broken : Rule → Trace → Op → Op → Bool
-is_broken k t a b = (b.name.hart == a.name.hart) && nat_lt a.name.tag b.name.tag && precedes b a && holds k t a b
+is_broken k t a b = (b.name.hart == a.name.hart) && nat_lt a.name.tag b.name.tag && precedes b a && orders k t a b
 
 -- ---- values
 
@@ -146,7 +147,7 @@ is_pair t r w =
 
 -- each byte of w is one of r
 abbrev pub is_within : Op → Op → Bool
-is_within w r = not (some_byte (λ x. covers x w && not (covers x r)) w)
+is_within w r = not (some_byte (λ x. has_byte x w && not (has_byte x r)) w)
 
 -- w is of a successful SC without a pair whose bytes contain its own
 abbrev pub is_unpaired : Trace → Op → Bool

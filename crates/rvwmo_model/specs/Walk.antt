@@ -1,7 +1,7 @@
 -- A walk through the instructions of a hart that finds what depends on one of them.
 use Rattle.std.specs.Prelude.{◌==◌, ◌&&◌, ◌||◌, nat_le, not, List, [], ◌∷◌, ◌++◌, Bool, true, false, None, Some}
-use Rattle.std.specs.Prelude.{if◌then◌else◌}
-use Rattle.std.specs.List.{filter, list_any}
+use Rattle.std.specs.Prelude.{if◌then◌else◌, ◌≡◌, ◌≤◌}
+use Rattle.std.specs.List.{Contains, filter, list_any}
 use Rattle.std.specs.declared.option.Option.{Option}
 use Rattle.rv_decode.specs.declared.instruction.Insn.{Insn}
 use Rattle.rv_decode.specs.declared.registers.Register.{Register}
@@ -16,6 +16,14 @@ abbrev pub use_of : Use → Insn → Register → Bool
 use_of Address = is_address
 use_of Data = is_data
 use_of Control = is_control
+
+-- w is asked about: its tag is from a tag to a tag, and it has a register in the use that is asked for
+abbrev pub Asks : Search → Retired → Type 0
+Asks search w = (search.from ≤ w.tag) × (w.tag ≤ search.to) × ((r : Register) × (use_of search.by w.insn r ≡ true))
+
+-- some instruction of the hart is asked about
+abbrev pub AsksSome : Search → List Retired → Type 0
+AsksSome search insns = (w : Retired) × Contains insns w × (w.hart ≡ search.hart) × Asks search w
 
 -- a register that the instruction w may set, where it sets it and starts there, or carries something marked to it
 abbrev pub fresh : Retired → Bool → List Register → Option Register → Option Register

@@ -105,27 +105,24 @@ impl Op {
     ghost use Rattle.rvwmo_model.specs.ProgramOrder.{is_older};
 
     /// Whether the byte at `x` is one of the operation's.
-    pub fn covers(&self, x: u64) -> bool
-        ensures { result ≡ Order.covers x self.now }
+    pub fn has_byte(&self, x: u64) -> bool
+        ensures { result ≡ Order.has_byte x self.now }
     {
-        let extent = self.extent;
-        extent.addr <= x
-            && x - extent.addr < u64::from(extent.len)
-            && (self.mask >> (x - extent.addr)) & 1 == 1
+        self.extent.has(x) && (self.mask >> (x - self.extent.addr)) & 1 == 1
     }
 
     /// Whether the operation loads the byte at `x`.
     pub fn reads(&self, x: u64) -> bool
         ensures { result ≡ Order.reads x self.now }
     {
-        self.kind.loads() && self.covers(x)
+        self.kind.loads() && self.has_byte(x)
     }
 
     /// Whether the operation stores to the byte at `x`.
     pub fn writes(&self, x: u64) -> bool
         ensures { result ≡ Order.writes x self.now }
     {
-        self.kind.stores() && self.covers(x)
+        self.kind.stores() && self.has_byte(x)
     }
 
     /// Whether this operation comes before another in the global order.

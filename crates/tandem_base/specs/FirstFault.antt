@@ -1,11 +1,11 @@
 -- The first fault of several tests. A test answers None where all is fine.
 use Rattle.std.specs.Prelude.{Option, Some, None, Result, Ok, Err}
+use Rattle.std.specs.Option.{option_or}
 
 infixr 30 ◌or_else◌
--- the first fault where there is one, and else the later
+-- the library's option_or, between its two: the first fault where there is one, and else the later
 abbrev pub ◌or_else◌ : {X : Type 0} → Option X → Option X → Option X
-None or_else later = later
-(Some fault) or_else later = Some fault
+first or_else later = option_or first later
 
 -- the value where there is no fault, and else the fault
 abbrev pub unless : {F X : Type 0} → Option F → X → Result X F

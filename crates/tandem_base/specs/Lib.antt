@@ -1,4 +1,5 @@
 pub mod Bytes
+pub mod Fields
 pub mod Puts
 pub mod Texts
 pub mod FirstFault

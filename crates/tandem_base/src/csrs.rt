@@ -41,7 +41,16 @@ pub const MHARTID: u16 = 0xF14;
 
 /// The constants are the numbers of the definitions: a law, with nothing to do.
 pub fn csrs_have_their_numbers()
-    ensures traps { (MSTATUS ≡ csr.mstatus) × (MIE ≡ csr.mie) × (MTVEC ≡ csr.mtvec) × (MSCRATCH ≡ csr.mscratch) }
-    ensures causes { (MEPC ≡ csr.mepc) × (MCAUSE ≡ csr.mcause) × (MTVAL ≡ csr.mtval) × (MIP ≡ csr.mip) }
-    ensures counters { (CYCLE ≡ csr.cycle) × (TIME ≡ csr.time) × (INSTRET ≡ csr.instret) × (MHARTID ≡ csr.mhartid) }
+    ensures mstatus { MSTATUS ≡ csr.mstatus }
+    ensures mie { MIE ≡ csr.mie }
+    ensures mtvec { MTVEC ≡ csr.mtvec }
+    ensures mscratch { MSCRATCH ≡ csr.mscratch }
+    ensures mepc { MEPC ≡ csr.mepc }
+    ensures mcause { MCAUSE ≡ csr.mcause }
+    ensures mtval { MTVAL ≡ csr.mtval }
+    ensures mip { MIP ≡ csr.mip }
+    ensures cycle { CYCLE ≡ csr.cycle }
+    ensures time { TIME ≡ csr.time }
+    ensures instret { INSTRET ≡ csr.instret }
+    ensures mhartid { MHARTID ≡ csr.mhartid }
 {}

@@ -1,5 +1,5 @@
 //! What every layer of Tandem speaks of: places, names, extents, the numbers of CSRs, arithmetic,
-//! and texts that are put into a buffer.
+//! numbers of several bytes, and texts that are put into a buffer.
 #![tactic(auto)]
 
 mod arithmetic;
@@ -7,6 +7,7 @@ mod bytes;
 pub mod csrs;
 mod division;
 mod extent;
+mod fields;
 mod names;
 mod puts;
 
@@ -14,7 +15,10 @@ pub use arithmetic::{mulh, mulhsu, mulhu, sext};
 pub use bytes::Bytes8;
 pub use division::{div, div32, divu, divu32, rem, rem32, remu, remu32};
 pub use extent::Extent;
-pub use names::{OpName, Origin, Place, Position, Source1, places_are_ordered};
+pub use fields::{u16_at, u32_at, u64_at};
+pub use names::{
+    OpName, Origin, Place, Position, Source1, places_are_ordered, positions_are_ordered_as_places,
+};
 pub use puts::put;
 
 #[cfg(test)]

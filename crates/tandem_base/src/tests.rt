@@ -130,6 +130,7 @@ fn orders_places_and_holds_bytes(rt: HostRuntime) -> Result<(), Fail> {
     assert_eq!(rt; one.number(), 7);
     assert_eq!(rt; eight.number(), 0x0807_0605_0403_0201);
     places_are_ordered();
+    positions_are_ordered_as_places();
     Ok(())
 }
 

@@ -14,7 +14,7 @@ use Rattle.tandem_cli.specs.declared.outcome.Outcome.TheVariants as outcome
 use Rattle.tandem_cli.specs.Words.{Asked}
 use Rattle.tandem_cli.specs.Checks.{answer_of, answer_to_file, answer_to_image, answer_to_stream, IsJudged}
 use Rattle.tandem_cli.specs.Checks.{OutcomeIs, Caused}
-use Rattle.tandem_cli.specs.Answers.{line_for, status_for, Prints, ChecksAs, NoFaultRose, Settled, AnswersUsage}
+use Rattle.tandem_cli.specs.Answers.{Due, due_for, Prints, PrintsDue, ChecksAs, NoFaultRose, Settled, AnswersUsage}
 use Rattle.tandem_cli.specs.Answers.{AnswersTo, refused, answered}
 
 -- a count that didn't rise
@@ -23,12 +23,11 @@ not_risen before after stays below (inl rises) = omega arith
 not_risen before after stays below (inr last) = omega arith
 
 -- the one answer, by an outcome that it is
-settle : (asked : Asked) (names : List Named) (slots' : Slots) (result : ℕ) (old new : Option (List ℕ)) (o : Outcome) →
-    answer_of asked names ≡ o → result ≡ status_for o → Appends old new (line_for asked o) →
-    OutcomeIs asked names o slots'.stream.left → Settled asked names slots' result old new
-settle asked names slots' result old new o is status line says =
-    answered (status ∙ ap status_for (sym is))
-    (subst (λ (p : Outcome). Appends old new (line_for asked p)) (sym is) line)
+settle : (asked : Asked) (names : List Named) (slots' : Slots) (result : ℕ) (old new : Option (List ℕ)) (o : Outcome)
+    (due : Due) → answer_of asked names ≡ o → due_for asked o ≡ Some due → result ≡ due.status →
+    Appends old new due.line → OutcomeIs asked names o slots'.stream.left → Settled asked names slots' result old new
+settle asked names slots' result old new o due is due_is status line says =
+    answered due (ap (λ (p : Outcome). due_for asked p) is ∙ due_is) status line
     (subst (λ (p : Outcome). OutcomeIs asked names p slots'.stream.left) (sym is) says)
 
 -- a verdict is the one answer
@@ -40,57 +39,59 @@ verdict_is asked names v left judged =
     ∙ ap (λ (found : Option (List ℕ)). answer_to_stream asked judged.image found) judged.there.stream_is
     ∙ ap outcome.Judged judged.verdict
 
+-- what was printed where the sink's count didn't rise
+printed : {due : Due} {result : ℕ} {old new : Option (List ℕ)} {before after : ℕ} → after ≤ before →
+    before < 2 ^ 64 - 1 → Prints due result old new before after → (result ≡ due.status) × Appends old new due.line
+printed stays below (inl whole) = whole
+printed {before = before} {after = after} stays below (inr failed) =
+    absurd (not_risen before after stays below failed.1)
+
 settled_by : (asked : Asked) (names : List Named) (slots slots' : Slots) (result : ℕ) (old new : Option (List ℕ))
     (before after : ℕ) (o : Outcome) → OutcomeIs asked names o slots'.stream.left → Caused o slots slots' →
-    NoFaultRose slots slots' before after → result ≡ status_for o → Appends old new (line_for asked o) →
+    NoFaultRose slots slots' before after → PrintsDue (due_for asked o) result old new before after →
     Settled asked names slots' result old new
 settled_by asked names slots slots' result old new before after
-    (outcome.Unloaded no_image.Missing) is caused quiet status line =
-    settle asked names slots' result old new (outcome.Unloaded no_image.Missing) is status line is
+    (outcome.Unloaded no_image.Missing) is caused quiet prints =
+    let line = printed quiet.out.0 quiet.out.1 prints in
+    settle asked names slots' result old new (outcome.Unloaded no_image.Missing) _ is refl line.0 line.1 is
 settled_by asked names slots slots' result old new before after
-    (outcome.Unloaded no_image.Unopened) is caused quiet status line =
+    (outcome.Unloaded no_image.Unopened) is caused quiet prints =
     absurd (not_risen slots.image.faults slots'.image.faults quiet.image.0 quiet.image.1 caused.0.0)
 settled_by asked names slots slots' result old new before after
-    (outcome.Unloaded no_image.Unread) is caused quiet status line =
+    (outcome.Unloaded no_image.Unread) is caused quiet prints =
     absurd (not_risen slots.image.faults slots'.image.faults quiet.image.0 quiet.image.1 caused.0.0)
 settled_by asked names slots slots' result old new before after
-    (outcome.Unloaded (no_image.Refused fault)) is caused quiet status line =
-    settle asked names slots' result old new (outcome.Unloaded (no_image.Refused fault)) is status line is
+    (outcome.Unloaded (no_image.Refused fault)) is caused quiet prints =
+    let line = printed quiet.out.0 quiet.out.1 prints in
+    settle asked names slots' result old new (outcome.Unloaded (no_image.Refused fault)) _ is refl line.0 line.1 is
 settled_by asked names slots slots' result old new before after
-    (outcome.Unloaded no_image.Memory) is caused quiet status line =
-    refused status line
+    (outcome.Unloaded no_image.Memory) is caused quiet prints =
+    refused prints
 settled_by asked names slots slots' result old new before after
-    (outcome.Unjudged no_verdict.Missing) is caused quiet status line =
-    settle asked names slots' result old new (outcome.Unjudged no_verdict.Missing) is status line is
+    (outcome.Unjudged no_verdict.Missing) is caused quiet prints =
+    let line = printed quiet.out.0 quiet.out.1 prints in
+    settle asked names slots' result old new (outcome.Unjudged no_verdict.Missing) _ is refl line.0 line.1 is
 settled_by asked names slots slots' result old new before after
-    (outcome.Unjudged no_verdict.Unopened) is caused quiet status line =
+    (outcome.Unjudged no_verdict.Unopened) is caused quiet prints =
     absurd (not_risen slots.stream.faults slots'.stream.faults quiet.stream.0 quiet.stream.1 caused.0.0)
 settled_by asked names slots slots' result old new before after
-    (outcome.Unjudged no_verdict.Unread) is caused quiet status line =
+    (outcome.Unjudged no_verdict.Unread) is caused quiet prints =
     absurd (not_risen slots.stream.faults slots'.stream.faults quiet.stream.0 quiet.stream.1 caused.0.0)
 settled_by asked names slots slots' result old new before after
-    (outcome.Unjudged no_verdict.Memory) is caused quiet status line =
-    refused status line
-settled_by asked names slots slots' result old new before after (outcome.Judged v) is caused quiet status line =
-    settle asked names slots' result old new (outcome.Judged v)
-    (verdict_is asked names v slots'.stream.left is) status line is
-
-settled_prints : (asked : Asked) (names : List Named) (slots slots' : Slots) (result : ℕ) (old new : Option (List ℕ))
-    (before after : ℕ) (o : Outcome) → OutcomeIs asked names o slots'.stream.left → Caused o slots slots' →
-    NoFaultRose slots slots' before after → Prints (line_for asked o) (status_for o) result old new before after →
-    Settled asked names slots' result old new
-settled_prints asked names slots slots' result old new before after o is caused quiet (inl printed) =
-    settled_by asked names slots slots' result old new before after o is caused quiet printed.0 printed.1
-settled_prints asked names slots slots' result old new before after o is caused quiet (inr failed) =
-    absurd (not_risen before after quiet.out.0 quiet.out.1 failed.1)
+    (outcome.Unjudged no_verdict.Memory) is caused quiet prints =
+    refused prints
+settled_by asked names slots slots' result old new before after
+    (outcome.Judged v) is caused quiet prints =
+    let line = printed quiet.out.0 quiet.out.1 prints in
+    settle asked names slots' result old new (outcome.Judged v) _ (verdict_is asked names v slots'.stream.left is) refl line.0 line.1 is
 
 -- where no count rose, every answer is the one answer, or that memory was refused
 pub settled : (asked : Asked) (names : List Named) (slots slots' : Slots) (result : ℕ) (old new : Option (List ℕ))
     (before after : ℕ) → ChecksAs asked (Some names) slots slots' result old new before after →
     NoFaultRose slots slots' before after → Settled asked names slots' result old new
 settled asked names slots slots' result old new before after answers quiet =
-    settled_prints asked names slots slots' result old new before after answers.outcome answers.is answers.caused
-    quiet answers.prints
+    settled_by asked names slots slots' result old new before after answers.outcome answers.is answers.caused quiet
+    answers.prints
 
 -- the same, where the names are told
 pub settled_told : (asked : Asked) (names : Option (List Named)) (slots slots' : Slots) (result : ℕ)
@@ -109,7 +110,7 @@ memory_refused asked names slots written faults = record {
   outcome = outcome.Unloaded no_image.Memory;
   is = nothing_said names;
   caused = (tt, refl);
-  prints = inl (refl, Appends-nil written);
+  prints = (refl, Appends-nil written);
 }
   where
     nothing_said : (names : Option (List Named)) → IfSome names (λ files. Unit {0})

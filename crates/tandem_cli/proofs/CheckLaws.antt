@@ -1,5 +1,5 @@
 -- What the readings of the inputs come to.
-use Rattle.std.proofs.Common.{◌≡◌, ℕ, ◌+◌, ◌-◌, ◌^◌, ◌<◌, ◌≤◌, ◌⊎◌, inl, inr, List, ◌++◌, length, drop, refl}
+use Rattle.std.proofs.Common.{◌≡◌, ℕ, ◌+◌, ◌<◌, ◌≤◌, ◌⊎◌, inl, inr, List, ◌++◌, length, drop, refl}
 use Rattle.std.proofs.Common.{sym, ap, subst, ◌∙◌, arith, Option, None, Some, Result, Ok, Err, append-nil}
 use Rattle.std.proofs.Common.{length-append}
 use Rattle.std.specs.Prelude.{nat_lt, Bool, true, false, is_some, IfSome, MatchBool}
@@ -13,7 +13,7 @@ use Rattle.elf_image.specs.declared.fault.ImageFault.{ImageFault}
 use Rattle.elf_image.specs.declared.fault.ImageFault.TheVariants as image_fault
 use Rattle.elf_image.specs.declared.fault.TooLarge.TheVariants as limit
 use Rattle.elf_image.specs.declared.limits.TheConstants.{MOST_FILE_BYTES}
-use Rattle.elf_image.specs.Images.{ImageOf, Loaded, loaded_of}
+use Rattle.elf_image.specs.Images.{ImageOf, Loaded}
 use Rattle.elf_image.specs.Faults.{Reads, file_fault}
 use Rattle.verdict_report.specs.declared.verdict.Verdict.{Verdict}
 use Rattle.tandem_core.specs.declared.judging.Unjudged.{Unjudged}
@@ -22,13 +22,12 @@ use Rattle.tandem_core.specs.Judgements.{Judgement, judgement}
 use Rattle.tandem_core.specs.Judging.{JudgedIs}
 use Rattle.tandem_cli.specs.declared.outcome.NoImage.TheVariants as no_image
 use Rattle.tandem_cli.specs.declared.outcome.NoVerdict.TheVariants as no_verdict
-use Rattle.tandem_cli.specs.declared.outcome.Outcome.{Outcome}
 use Rattle.tandem_cli.specs.declared.outcome.Outcome.TheVariants as outcome
 use Rattle.tandem_cli.specs.Options.{Chosen}
 use Rattle.tandem_cli.specs.Words.{Asked}
 use Rattle.tandem_cli.specs.Checks.{meaning_at, meaning_of, answer_of, answer_to_file, answer_to_image}
-use Rattle.tandem_cli.specs.Checks.{answer_to_stream, IsAccepted, OutcomeIs, ImageIs, StreamCaused, no_image_of}
-use Rattle.tandem_cli.specs.Checks.{image_read, outcome_judged}
+use Rattle.tandem_cli.specs.Checks.{answer_to_stream, IsAccepted, IsFront, ImageIs, StreamIs, StreamCaused, no_image_of}
+use Rattle.tandem_cli.specs.Checks.{image_read, stream_judged}
 
 -- ---- an image that was read whole, or as far as one is read
 
@@ -134,14 +133,26 @@ missing_stream (Some files) asked image found none told =
     ∙ ap (λ (found : Option (List ℕ)). answer_to_stream asked image found)
     (content_none (content_of files asked.stream) (sym none ∙ told))
 
+-- what was taken of a stream that is there
+front_is : {names : List Named} {asked : Asked} {image : Loaded} (stream got rest : List ℕ) →
+    content_of names asked.stream ≡ Some stream → stream ≡ got ++ rest → IsAccepted asked names image →
+    IsFront asked names image got (Some rest)
+front_is stream got rest there is accepted = record {
+  stream = stream;
+  rest = rest;
+  there = record { accepted = accepted; stream_is = there };
+  stream_is = is;
+  left_is = refl;
+}
+
 -- what is answered of a stream that is there
-outcome_is : (names : List Named) (asked : Asked) (image : Loaded) (judged : Result Verdict Unjudged)
+stream_is : (names : List Named) (asked : Asked) (image : Loaded) (judged : Result Verdict Unjudged)
     (stream got : List ℕ)
     (left : Option (List ℕ)) → content_of names asked.stream ≡ Some stream → Consumes (Some stream) left got →
     JudgedIs image asked.options.limits judged got left → IsAccepted asked names image →
-    OutcomeIs asked names (outcome_judged judged) left
-outcome_is names asked image (Ok v) stream got None there consumed decides accepted = absurd consumed
-outcome_is names asked image (Ok v) stream got (Some rest) there consumed decides accepted =
+    StreamIs asked names (stream_judged judged) left
+stream_is names asked image (Ok v) stream got None there consumed decides accepted = absurd consumed
+stream_is names asked image (Ok v) stream got (Some rest) there consumed decides accepted =
     let j : Judgement = record { verdict = v; taken = length got } in
     let whole : judgement image asked.options.limits (got ++ rest) ≡ j =
     elim decides.verdict as (λ _. judgement image asked.options.limits (got ++ rest) ≡ j) [
@@ -160,19 +171,12 @@ outcome_is names asked image (Ok v) stream got (Some rest) there consumed decide
       verdict = ap (λ (k : Judgement). k.verdict) all;
       left_is = ap (λ (b : List ℕ). Some b) (sym after) ∙ ap (λ (k : Judgement). Some (drop k.taken stream)) (sym all);
     }
-outcome_is names asked image (Err unjudged.Failed) stream got None there consumed lacks accepted = absurd consumed
-outcome_is names asked image (Err unjudged.Failed) stream got (Some rest) there consumed lacks accepted =
-    record {
-      image = image;
-      stream = stream;
-      got = got;
-      rest = rest;
-      there = record { accepted = accepted; stream_is = there };
-      stream_is = consumed;
-      left_is = refl;
-      lacks = lacks;
-    }
-outcome_is names asked image (Err unjudged.Memory) stream got left there consumed is accepted = (image, accepted)
+stream_is names asked image (Err unjudged.Failed) stream got None there consumed lacks accepted = absurd consumed
+stream_is names asked image (Err unjudged.Failed) stream got (Some rest) there consumed lacks accepted =
+    record { image = image; got = got; taken = front_is stream got rest there consumed accepted; lacks = lacks }
+stream_is names asked image (Err unjudged.Memory) stream got None there consumed halts accepted = absurd consumed
+stream_is names asked image (Err unjudged.Memory) stream got (Some rest) there consumed halts accepted =
+    record { image = image; got = got; taken = front_is stream got rest there consumed accepted; halts = halts }
 
 -- what was attached as the stream and judged
 pub judged_told : (names : Option (List Named)) (asked : Asked) (image : Loaded) (judged : Result Verdict Unjudged)
@@ -181,50 +185,16 @@ pub judged_told : (names : Option (List Named)) (asked : Asked) (image : Loaded)
     IfSome names (λ files. found ≡ is_some (content_of files asked.stream)) →
     MatchBool found (IfSome names (λ files. left ≡ content_of files asked.stream)) (Keeps old left) →
     Consumes left left' got → JudgedIs image asked.options.limits judged got left' →
-    IfSome names (λ files. IsAccepted asked files image → OutcomeIs asked files (outcome_judged judged) left')
+    IfSome names (λ files. IsAccepted asked files image → StreamIs asked files (stream_judged judged) left')
 judged_told None asked image judged found old left left' got is_there told holds consumed is = tt
 judged_told (Some files) asked image judged true old left left' got is_there told holds consumed is =
     let content = content_found (content_of files asked.stream) told in
     let taken : Consumes (Some content.0) left' got =
     subst (λ (l : Option (List ℕ)). Consumes l left' got) (holds ∙ content.1) consumed in
-    λ accepted. outcome_is files asked image judged content.0 got left' content.1 taken is accepted
+    λ accepted. stream_is files asked image judged content.0 got left' content.1 taken is accepted
 judged_told (Some files) asked image judged false old left left' got is_there told holds consumed is = absurd (cc)
 
--- ---- both together
-
--- the image and the stream, joined
-pub joined_told : (names names' : Option (List Named)) (asked : Asked) (image : ImageOf) (o : Outcome)
-    (left : Option (List ℕ)) →
-    names' ≡ names → IfSome names (λ files. ImageIs asked files (Ok image)) →
-    IfSome names' (λ files. IsAccepted asked files (loaded_of image) → OutcomeIs asked files o left) →
-    IfSome names (λ files. OutcomeIs asked files o left)
-joined_told names names' asked image o left same on_image on_stream =
-    joined_some names asked image o left on_image
-    (subst (λ (n : Option (List Named)). IfSome n (λ files. IsAccepted asked files (loaded_of image)
-    → OutcomeIs asked files o left)) same on_stream)
-  where
-    joined_some : (names : Option (List Named)) (asked : Asked) (image : ImageOf) (o : Outcome)
-        (left : Option (List ℕ)) →
-        IfSome names (λ files. ImageIs asked files (Ok image)) →
-        IfSome names (λ files. IsAccepted asked files (loaded_of image) → OutcomeIs asked files o left) →
-        IfSome names (λ files. OutcomeIs asked files o left)
-    joined_some None asked image o left on_image on_stream = tt
-    joined_some (Some files) asked image o left on_image on_stream = on_stream on_image
-
 -- ---- causes
-
--- a refused file is refused for a fault of its own
-pub never_memory : (fault : ImageFault) (why : ImageFault) → no_image_of fault ≡ no_image.Refused why
-    → why ≡ image_fault.Memory → ⊥
-never_memory image_fault.NotElf why e m = absurd (cc)
-never_memory image_fault.Class why e m = absurd (cc)
-never_memory image_fault.Kind why e m = absurd (cc)
-never_memory image_fault.Machine why e m = absurd (cc)
-never_memory (image_fault.Headers offset) why e m = absurd (cc)
-never_memory (image_fault.Segment index) why e m = absurd (cc)
-never_memory (image_fault.Overlap first second) why e m = absurd (cc)
-never_memory (image_fault.TooLarge limit') why e m = absurd (cc)
-never_memory image_fault.Memory why e m = absurd (cc)
 
 -- a count that rose within a call rose over it
 pub rose_on : (before mid after : ℕ) → before ≤ mid → mid ≤ after → Rose mid after → Rose before after
@@ -234,7 +204,7 @@ rose_on before mid after low high (inr last) =
 
 -- the cause of an answer on a stream that is there
 pub stream_caused : (judged : Result Verdict Unjudged) (before after : SlotView) → after.attached ≡ Some true →
-    (judged ≡ Err unjudged.Failed → Rose before.faults after.faults) → StreamCaused (outcome_judged judged) before after
+    (judged ≡ Err unjudged.Failed → Rose before.faults after.faults) → StreamCaused (stream_judged judged) before after
 stream_caused (Ok v) before after attached rises = attached
 stream_caused (Err unjudged.Failed) before after attached rises = (rises refl, attached)
 stream_caused (Err unjudged.Memory) before after attached rises = attached

@@ -16,41 +16,26 @@ use Rattle.tandem_cli.specs.declared.outcome.NoVerdict.TheVariants as no_verdict
 use Rattle.tandem_cli.specs.declared.outcome.Outcome.{Outcome}
 use Rattle.tandem_cli.specs.declared.outcome.Outcome.TheVariants as outcome
 
--- the line that tells why there is no image of this name, none where memory was refused
-abbrev pub no_image_line : List ℕ → NoImage → List ℕ
-no_image_line name no_image.Missing = missing_line name
-no_image_line name no_image.Unopened = failed_line name
-no_image_line name no_image.Unread = failed_line name
-no_image_line name (no_image.Refused fault) = image_line fault
-no_image_line name no_image.Memory = []
+-- a line that is due, and the status that goes with it
+pub record Due : Type 0 where
+  pub line : List ℕ
+  pub status : ℕ
 
--- the line that tells why there is no verdict on the stream of this name, likewise
-abbrev pub no_verdict_line : List ℕ → NoVerdict → List ℕ
-no_verdict_line name no_verdict.Missing = missing_line name
-no_verdict_line name no_verdict.Unopened = failed_line name
-no_verdict_line name no_verdict.Unread = failed_line name
-no_verdict_line name no_verdict.Memory = []
+-- what is due where there is no image of this name: 3 is a want of the input, 4 a refused image; nothing is due where
+-- memory was refused
+abbrev pub due_without_image : List ℕ → NoImage → Option Due
+due_without_image name no_image.Missing = Some (record { line = missing_line name; status = 3 })
+due_without_image name no_image.Unopened = Some (record { line = failed_line name; status = 3 })
+due_without_image name no_image.Unread = Some (record { line = failed_line name; status = 3 })
+due_without_image name (no_image.Refused fault) = Some (record { line = image_line fault; status = 4 })
+due_without_image name no_image.Memory = None
 
--- the line of an outcome
-abbrev pub line_for : Asked → Outcome → List ℕ
-line_for asked (outcome.Unloaded why) = no_image_line asked.image why
-line_for asked (outcome.Unjudged why) = no_verdict_line asked.stream why
-line_for asked (outcome.Judged v) = line_of v
-
--- 3 is a want of the input, 4 a refused image, 7 a want of memory
-abbrev pub no_image_status : NoImage → ℕ
-no_image_status no_image.Missing = 3
-no_image_status no_image.Unopened = 3
-no_image_status no_image.Unread = 3
-no_image_status (no_image.Refused fault) = 4
-no_image_status no_image.Memory = 7
-
--- likewise
-abbrev pub no_verdict_status : NoVerdict → ℕ
-no_verdict_status no_verdict.Missing = 3
-no_verdict_status no_verdict.Unopened = 3
-no_verdict_status no_verdict.Unread = 3
-no_verdict_status no_verdict.Memory = 7
+-- what is due where there is no verdict on the stream of this name, likewise
+abbrev pub due_without_verdict : List ℕ → NoVerdict → Option Due
+due_without_verdict name no_verdict.Missing = Some (record { line = missing_line name; status = 3 })
+due_without_verdict name no_verdict.Unopened = Some (record { line = failed_line name; status = 3 })
+due_without_verdict name no_verdict.Unread = Some (record { line = failed_line name; status = 3 })
+due_without_verdict name no_verdict.Memory = None
 
 -- 0 accepts, 1 rejects, 5 is undecided
 abbrev pub status_of_verdict : Verdict → ℕ
@@ -58,17 +43,31 @@ status_of_verdict (verdict.Accept messages retired operations) = 0
 status_of_verdict (verdict.Reject report) = 1
 status_of_verdict (verdict.Undecided message limit hart count) = 5
 
--- the status of an outcome
-abbrev pub status_for : Outcome → ℕ
-status_for (outcome.Unloaded why) = no_image_status why
-status_for (outcome.Unjudged why) = no_verdict_status why
-status_for (outcome.Judged v) = status_of_verdict v
+-- what is due for an outcome
+abbrev pub due_for : Asked → Outcome → Option Due
+due_for asked (outcome.Unloaded why) = due_without_image asked.image why
+due_for asked (outcome.Unjudged why) = due_without_verdict asked.stream why
+due_for asked (outcome.Judged v) = Some (record { line = line_of v; status = status_of_verdict v })
+
+-- what is due for words of another form
+abbrev pub usage_due : Due
+usage_due = record { line = usage_line; status = 2 }
 
 -- the line was written and its status answered; or the sink's count rose, the sink took a front of the line, and 6 was
 -- answered
-abbrev pub Prints : List ℕ → ℕ → ℕ → Option (List ℕ) → Option (List ℕ) → ℕ → ℕ → Type 0
-Prints line status result old new before after =
-    ((result ≡ status) × Appends old new line) ⊎ ((result ≡ 6) × Rose before after × TakesFront old new line)
+abbrev pub Prints : Due → ℕ → Option (List ℕ) → Option (List ℕ) → ℕ → ℕ → Type 0
+Prints due result old new before after =
+    ((result ≡ due.status) × Appends old new due.line)
+    ⊎ ((result ≡ 6) × Rose before after × TakesFront old new due.line)
+
+-- memory was refused: nothing was written, and 7 was answered
+abbrev pub PrintsNothing : ℕ → Option (List ℕ) → Option (List ℕ) → Type 0
+PrintsNothing result old new = (result ≡ 7) × Appends old new []
+
+-- what is due was printed, and nothing where nothing is
+abbrev pub PrintsDue : Option Due → ℕ → Option (List ℕ) → Option (List ℕ) → ℕ → ℕ → Type 0
+PrintsDue None result old new before after = PrintsNothing result old new
+PrintsDue (Some due) result old new before after = Prints due result old new before after
 
 -- The answer to words of the form of `check`: an outcome with what it says and its cause, and its line.
 pub record ChecksAs (asked : Asked) (names : Option (List Named)) (slots slots' : Slots) (result : ℕ)
@@ -76,7 +75,7 @@ pub record ChecksAs (asked : Asked) (names : Option (List Named)) (slots slots' 
   pub outcome : Outcome
   pub is : IfSome names (λ files. OutcomeIs asked files outcome slots'.stream.left)
   pub caused : Caused outcome slots slots'
-  pub prints : Prints (line_for asked outcome) (status_for outcome) result old new before after
+  pub prints : PrintsDue (due_for asked outcome) result old new before after
 
 -- no count of faults rose in the call, or stands at its end
 pub record NoFaultRose (slots slots' : Slots) (before after : ℕ) : Type 0 where
@@ -89,14 +88,15 @@ pub record NoFaultRose (slots slots' : Slots) (before after : ℕ) : Type 0 wher
 -- stream.
 pub data Settled (asked : Asked) (names : List Named) (slots' : Slots) (result : ℕ) (old new : Option (List ℕ))
     : Type 0 where
-  refused : result ≡ 7 → Appends old new [] → Settled asked names slots' result old new
-  answered : result ≡ status_for (answer_of asked names) → Appends old new (line_for asked (answer_of asked names)) →
-      OutcomeIs asked names (answer_of asked names) slots'.stream.left → Settled asked names slots' result old new
+  refused : PrintsNothing result old new → Settled asked names slots' result old new
+  answered : (due : Due) → due_for asked (answer_of asked names) ≡ Some due → result ≡ due.status →
+      Appends old new due.line → OutcomeIs asked names (answer_of asked names) slots'.stream.left →
+      Settled asked names slots' result old new
 
 -- the answer to words of another form: the words that `check` takes are written, or memory was refused
 abbrev pub AnswersUsage : ℕ → Option (List ℕ) → Option (List ℕ) → ℕ → ℕ → Type 0
 AnswersUsage result old new before after =
-    ((result ≡ 7) × Appends old new []) ⊎ Prints usage_line 2 result old new before after
+    PrintsNothing result old new ⊎ Prints usage_due result old new before after
 
 -- the answer to words, by what they ask for
 abbrev pub AnswersTo : Option Asked → Option (List Named) → Slots → Slots → ℕ → Option (List ℕ) → Option (List ℕ) → ℕ

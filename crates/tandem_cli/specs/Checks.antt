@@ -1,5 +1,5 @@
 -- What `tandem check` is to answer, and what an outcome says.
-use Rattle.std.specs.Prelude.{ℕ, ◌≡◌, ◌≤◌, ◌++◌, Bool, true, false, List, drop, Option, Some, None, Result, Ok, Err}
+use Rattle.std.specs.Prelude.{ℕ, ◌≡◌, ◌≤◌, ◌++◌, true, false, List, drop, Option, Some, None, Result, Ok, Err}
 use Rattle.tandem_io.specs.Causes.{Rose}
 use Rattle.tandem_io.specs.Inputs.{Named, SlotView, Slots, content_of}
 use Rattle.elf_image.specs.declared.fault.ImageFault.{ImageFault}
@@ -11,9 +11,10 @@ use Rattle.verdict_report.specs.declared.verdict.Verdict.{Verdict}
 use Rattle.tandem_core.specs.declared.judging.Unjudged.{Unjudged}
 use Rattle.tandem_core.specs.declared.judging.Unjudged.TheVariants as unjudged
 use Rattle.tandem_core.specs.Judgements.{judgement}
-use Rattle.tandem_core.specs.Judging.{Lacks}
+use Rattle.tandem_core.specs.Judging.{Halts, Lacks}
 use Rattle.tandem_cli.specs.Options.{Chosen}
 use Rattle.tandem_cli.specs.Words.{Asked}
+use Rattle.tandem_cli.specs.declared.file_fault.FileFault.TheVariants as file_fault
 use Rattle.tandem_cli.specs.declared.outcome.NoImage.{NoImage}
 use Rattle.tandem_cli.specs.declared.outcome.NoImage.TheVariants as no_image
 use Rattle.tandem_cli.specs.declared.outcome.NoVerdict.{NoVerdict}
@@ -30,6 +31,18 @@ meaning_at (Some base) options bytes = flat_of bytes base options.rams
 abbrev pub meaning_of : Chosen → List ℕ → Result Loaded ImageFault
 meaning_of options bytes = meaning_at options.flat options bytes
 
+-- why there is no image: a fault of the file, or that memory was refused
+abbrev pub no_image_of : ImageFault → NoImage
+no_image_of image_fault.NotElf = no_image.Refused file_fault.NotElf
+no_image_of image_fault.Class = no_image.Refused file_fault.Class
+no_image_of image_fault.Kind = no_image.Refused file_fault.Kind
+no_image_of image_fault.Machine = no_image.Refused file_fault.Machine
+no_image_of (image_fault.Headers offset) = no_image.Refused (file_fault.Headers offset)
+no_image_of (image_fault.Segment index) = no_image.Refused (file_fault.Segment index)
+no_image_of (image_fault.Overlap first second) = no_image.Refused (file_fault.Overlap first second)
+no_image_of (image_fault.TooLarge limit) = no_image.Refused (file_fault.TooLarge limit)
+no_image_of image_fault.Memory = no_image.Memory
+
 -- the answer once the image is there: the stream is missing, or judged
 abbrev pub answer_to_stream : Asked → Loaded → Option (List ℕ) → Outcome
 answer_to_stream asked image None = outcome.Unjudged no_verdict.Missing
@@ -37,7 +50,7 @@ answer_to_stream asked image (Some stream) = outcome.Judged (judgement image ask
 
 -- the answer once the image is read: it is refused, or the stream is looked for
 abbrev pub answer_to_image : Asked → List Named → Result Loaded ImageFault → Outcome
-answer_to_image asked names (Err fault) = outcome.Unloaded (no_image.Refused fault)
+answer_to_image asked names (Err fault) = outcome.Unloaded (no_image_of fault)
 answer_to_image asked names (Ok image) = answer_to_stream asked image (content_of names asked.stream)
 
 -- the answer once the image is looked for
@@ -68,16 +81,28 @@ pub record IsJudged (asked : Asked) (names : List Named) (v : Verdict) (left : O
   pub verdict : (judgement image asked.options.limits stream).verdict ≡ v
   pub left_is : left ≡ Some (drop (judgement image asked.options.limits stream).taken stream)
 
--- what was taken of the stream lacks a part of the frame at which the verdict stands
-pub record IsUnread (asked : Asked) (names : List Named) (left : Option (List ℕ)) : Type 0 where
-  pub image : Loaded
+-- these bytes were taken of the stream that is asked for, which is judged against this image, and the rest is left
+pub record IsFront (asked : Asked) (names : List Named) (image : Loaded) (got : List ℕ) (left : Option (List ℕ))
+    : Type 0 where
   pub stream : List ℕ
-  pub got : List ℕ
   pub rest : List ℕ
   pub there : AreThere asked names image stream
   pub stream_is : stream ≡ got ++ rest
   pub left_is : left ≡ Some rest
+
+-- what was taken of the stream lacks a part of the frame at which the verdict stands
+pub record IsUnread (asked : Asked) (names : List Named) (left : Option (List ℕ)) : Type 0 where
+  pub image : Loaded
+  pub got : List ℕ
+  pub taken : IsFront asked names image got left
   pub lacks : Lacks image asked.options.limits got
+
+-- what was taken of the stream ends at most with the frame at which the verdict stands, and memory was refused there
+pub record IsHalted (asked : Asked) (names : List Named) (left : Option (List ℕ)) : Type 0 where
+  pub image : Loaded
+  pub got : List ℕ
+  pub taken : IsFront asked names image got left
+  pub halts : Halts image asked.options.limits got
 
 -- what the want of an image says of inputs that tell their names
 abbrev pub NoImageIs : Asked → List Named → NoImage → Type 0
@@ -92,13 +117,18 @@ abbrev pub NoVerdictIs : Asked → List Named → NoVerdict → Option (List ℕ
 NoVerdictIs asked names no_verdict.Missing left = answer_of asked names ≡ outcome.Unjudged no_verdict.Missing
 NoVerdictIs asked names no_verdict.Unopened left = (image : Loaded) × IsAccepted asked names image
 NoVerdictIs asked names no_verdict.Unread left = IsUnread asked names left
-NoVerdictIs asked names no_verdict.Memory left = (image : Loaded) × IsAccepted asked names image
+NoVerdictIs asked names no_verdict.Memory left = IsHalted asked names left
 
 -- what an outcome says of inputs that tell their names, and of what is left of the stream
 abbrev pub OutcomeIs : Asked → List Named → Outcome → Option (List ℕ) → Type 0
 OutcomeIs asked names (outcome.Unloaded why) left = NoImageIs asked names why
 OutcomeIs asked names (outcome.Unjudged why) left = NoVerdictIs asked names why left
 OutcomeIs asked names (outcome.Judged v) left = IsJudged asked names v left
+
+-- what an answer on the stream says of inputs that tell their names, and of what is left of the stream
+abbrev pub StreamIs : Asked → List Named → Result Verdict NoVerdict → Option (List ℕ) → Type 0
+StreamIs asked names (Ok v) left = IsJudged asked names v left
+StreamIs asked names (Err why) left = NoVerdictIs asked names why left
 
 -- what an answer on the image says of inputs that tell their names
 abbrev pub ImageIs : Asked → List Named → Result ImageOf NoImage → Type 0
@@ -111,14 +141,13 @@ pub record IsReadWhole (image : SlotView) : Type 0 where
   pub ended : image.ended ≡ true
 
 -- Why there is no image, by the image's slot. Where it could not be opened the slot stands as it was, and where it
--- could not be read it was found; a file that is refused is so for a fault of its own, never for want of memory.
+-- could not be read or is refused it was found.
 abbrev pub NoImageCaused : NoImage → SlotView → SlotView → Type 0
 NoImageCaused no_image.Missing before after = after.attached ≡ Some false
 NoImageCaused no_image.Unopened before after =
     Rose before.faults after.faults × (after.attached ≡ before.attached) × (after.ended ≡ before.ended)
 NoImageCaused no_image.Unread before after = Rose before.faults after.faults × (after.attached ≡ Some true)
-NoImageCaused (no_image.Refused fault) before after =
-    (after.attached ≡ Some true) × (fault ≡ image_fault.Memory → ⊥)
+NoImageCaused (no_image.Refused fault) before after = after.attached ≡ Some true
 NoImageCaused no_image.Memory before after = Unit {0}
 
 -- the cause of an answer on the image: it was read whole, or this is why there is none
@@ -134,11 +163,10 @@ NoVerdictCaused no_verdict.Unopened before after =
 NoVerdictCaused no_verdict.Unread before after = Rose before.faults after.faults × (after.attached ≡ Some true)
 NoVerdictCaused no_verdict.Memory before after = after.attached ≡ Some true
 
--- the cause of an outcome on the stream
-abbrev pub StreamCaused : Outcome → SlotView → SlotView → Type 0
-StreamCaused (outcome.Unloaded why) before after = ⊥
-StreamCaused (outcome.Unjudged why) before after = NoVerdictCaused why before after
-StreamCaused (outcome.Judged v) before after = after.attached ≡ Some true
+-- the cause of an answer on the stream: it was found, or this is why there is no verdict
+abbrev pub StreamCaused : Result Verdict NoVerdict → SlotView → SlotView → Type 0
+StreamCaused (Ok v) before after = after.attached ≡ Some true
+StreamCaused (Err why) before after = NoVerdictCaused why before after
 
 -- The cause of an outcome. One on the image leaves the stream's slot as it was, and one on the stream comes only after
 -- the image was read whole.
@@ -154,25 +182,13 @@ pub record CountsStand (before after : Slots) : Type 0 where
   pub image : before.image.faults ≤ after.image.faults
   pub stream : before.stream.faults ≤ after.stream.faults
 
--- why there is no image: a fault of the file, or that memory was refused
-abbrev pub no_image_of : ImageFault → NoImage
-no_image_of image_fault.NotElf = no_image.Refused image_fault.NotElf
-no_image_of image_fault.Class = no_image.Refused image_fault.Class
-no_image_of image_fault.Kind = no_image.Refused image_fault.Kind
-no_image_of image_fault.Machine = no_image.Refused image_fault.Machine
-no_image_of (image_fault.Headers offset) = no_image.Refused (image_fault.Headers offset)
-no_image_of (image_fault.Segment index) = no_image.Refused (image_fault.Segment index)
-no_image_of (image_fault.Overlap first second) = no_image.Refused (image_fault.Overlap first second)
-no_image_of (image_fault.TooLarge limit) = no_image.Refused (image_fault.TooLarge limit)
-no_image_of image_fault.Memory = no_image.Memory
-
 -- what a reader's answer comes to
 abbrev pub image_read : Result ImageOf ImageFault → Result ImageOf NoImage
 image_read (Ok image) = Ok image
 image_read (Err fault) = Err (no_image_of fault)
 
--- what the answer on the stream comes to
-abbrev pub outcome_judged : Result Verdict Unjudged → Outcome
-outcome_judged (Ok v) = outcome.Judged v
-outcome_judged (Err unjudged.Failed) = outcome.Unjudged no_verdict.Unread
-outcome_judged (Err unjudged.Memory) = outcome.Unjudged no_verdict.Memory
+-- what the core's answer comes to
+abbrev pub stream_judged : Result Verdict Unjudged → Result Verdict NoVerdict
+stream_judged (Ok v) = Ok v
+stream_judged (Err unjudged.Failed) = Err no_verdict.Unread
+stream_judged (Err unjudged.Memory) = Err no_verdict.Memory

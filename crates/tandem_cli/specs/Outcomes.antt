@@ -1,12 +1,12 @@
 -- The lines of the outcomes that have no verdict. A line ends with one newline, and one space
 -- separates its parts.
-use Rattle.std.specs.Prelude.{ℕ, List, [], ◌++◌, ◌≤◌, codes, length, take, Option}
+use Rattle.std.specs.Prelude.{ℕ, List, ◌++◌, ◌≤◌, codes, length, take, Option}
 use Rattle.std.specs.Fmt.{decimal}
 use Rattle.std.specs.Io.KnownBytes.{Appends}
 use Rattle.tandem_base.specs.Texts.{newline}
-use Rattle.elf_image.specs.declared.fault.ImageFault.{ImageFault}
-use Rattle.elf_image.specs.declared.fault.ImageFault.TheVariants.{NotElf, Class, Kind, Machine, Headers}
-use Rattle.elf_image.specs.declared.fault.ImageFault.TheVariants.{Segment, Overlap, TooLarge, Memory}
+use Rattle.tandem_cli.specs.declared.file_fault.FileFault.{FileFault}
+use Rattle.tandem_cli.specs.declared.file_fault.FileFault.TheVariants.{NotElf, Class, Kind, Machine, Headers}
+use Rattle.tandem_cli.specs.declared.file_fault.FileFault.TheVariants.{Segment, Overlap, TooLarge}
 use Rattle.elf_image.specs.declared.fault.TooLarge as excess
 use Rattle.elf_image.specs.declared.fault.TooLarge.TheVariants.{File, Ranges, Sum}
 
@@ -28,8 +28,8 @@ excess_text (File length) = codes "File " ++ decimal length
 excess_text (Ranges count) = codes "Ranges " ++ decimal count
 excess_text (Sum size) = codes "Sum " ++ decimal size
 
--- the image is none; nothing where memory was refused
-abbrev pub image_line : ImageFault → List ℕ
+-- the file is no image
+abbrev pub image_line : FileFault → List ℕ
 image_line NotElf = codes "IMAGE 1 NotElf\n"
 image_line Class = codes "IMAGE 2 Class\n"
 image_line Kind = codes "IMAGE 3 Kind\n"
@@ -38,7 +38,6 @@ image_line (Headers offset) = codes "IMAGE 5 Headers " ++ decimal offset ++ newl
 image_line (Segment index) = codes "IMAGE 6 Segment " ++ decimal index ++ newline
 image_line (Overlap first second) = codes "IMAGE 7 Overlap " ++ decimal first ++ codes " " ++ decimal second ++ newline
 image_line (TooLarge limit) = codes "IMAGE 8 TooLarge " ++ excess_text limit ++ newline
-image_line Memory = []
 
 -- a sink took some first bytes of the text
 pub record TakesFront (old new : Option (List ℕ)) (text : List ℕ) : Type 0 where

@@ -2,6 +2,7 @@
 #![tactic(auto)]
 
 mod chosen;
+mod file_fault;
 mod intake;
 mod number;
 mod options;

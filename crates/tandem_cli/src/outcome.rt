@@ -5,11 +5,12 @@ ghost use Rattle.elf_image.specs.Faults.{Reads};
 ghost use Rattle.elf_image.specs.Images.{loaded_of};
 ghost use Rattle.tandem_cli.specs.Fits.{IsFit};
 ghost use Rattle.tandem_cli.specs.Checks.{Caused, CountsStand, ImageCaused, ImageIs, IsAccepted, OutcomeIs};
-ghost use Rattle.tandem_cli.specs.Checks.{StreamCaused};
-ghost use Rattle.tandem_cli.specs.Checks.{image_read, meaning_of, no_image_of, outcome_judged};
+ghost use Rattle.tandem_cli.specs.Checks.{StreamCaused, StreamIs};
+ghost use Rattle.tandem_cli.specs.Checks.{image_read, meaning_of, no_image_of, stream_judged};
 ghost use Rattle.tandem_cli.specs.Seen.{asked_seen, chosen_seen};
 
 use super::chosen::CheckOptions;
+use super::file_fault::FileFault;
 use super::intake::{Whole, read_whole};
 use super::words::CheckWords;
 use elf_image::{Image, ImageFault};
@@ -28,7 +29,7 @@ pub enum NoImage {
     /// Its input could not be read.
     Unread,
     /// Its input is none.
-    Refused(ImageFault),
+    Refused(FileFault),
     /// Memory was refused.
     Memory,
 }
@@ -66,9 +67,13 @@ pub fn check<I: Inputs>(alloc: Global, asked: &CheckWords, ins: &mut I) -> Outco
     ensures counts { CountsStand (I.slots ins.old) (I.slots ins.new) }
     ensures names { I.names ins.new ≡ I.names ins.old }
 {
-    match read_image(alloc, asked, ins) {
-        Ok(image) => judge_stream(alloc, &image, asked, ins),
-        Err(why) => Outcome::Unloaded(why),
+    let image = match read_image(alloc, asked, ins) {
+        Ok(image) => image,
+        Err(why) => return Outcome::Unloaded(why),
+    };
+    match judge_stream(alloc, &image, asked, ins) {
+        Ok(verdict) => Outcome::Judged(verdict),
+        Err(why) => Outcome::Unjudged(why),
     }
 }
 
@@ -118,17 +123,30 @@ fn image_or_fault(read: Result<Image, ImageFault>) -> Result<Image, NoImage>
 fn no_image(fault: ImageFault) -> NoImage
     ensures { result ≡ no_image_of fault }
 {
-    match fault {
-        ImageFault::Memory => NoImage::Memory,
-        _ => NoImage::Refused(fault),
-    }
+    let fault = match fault {
+        ImageFault::NotElf => FileFault::NotElf,
+        ImageFault::Class => FileFault::Class,
+        ImageFault::Kind => FileFault::Kind,
+        ImageFault::Machine => FileFault::Machine,
+        ImageFault::Headers(offset) => FileFault::Headers(offset),
+        ImageFault::Segment(index) => FileFault::Segment(index),
+        ImageFault::Overlap(first, second) => FileFault::Overlap(first, second),
+        ImageFault::TooLarge(limit) => FileFault::TooLarge(limit),
+        ImageFault::Memory => return NoImage::Memory,
+    };
+    NoImage::Refused(fault)
 }
 
 // The verdict on the stream that is asked for.
-fn judge_stream<I: Inputs>(alloc: Global, image: &Image, asked: &CheckWords, ins: &mut I) -> Outcome
+fn judge_stream<I: Inputs>(
+    alloc: Global,
+    image: &Image,
+    asked: &CheckWords,
+    ins: &mut I,
+) -> Result<Verdict, NoVerdict>
     requires { IsFit (chosen_seen asked.now.options) }
-    ensures outcome { IfSome (I.names ins.old) (λ names. IsAccepted (asked_seen asked.now) names (loaded_of image.now) →
-        OutcomeIs (asked_seen asked.now) names result (I.slots ins.new).stream.left) }
+    ensures stream { IfSome (I.names ins.old) (λ names. IsAccepted (asked_seen asked.now) names (loaded_of image.now) →
+        StreamIs (asked_seen asked.now) names result (I.slots ins.new).stream.left) }
     ensures cause { StreamCaused result (I.slots ins.old).stream (I.slots ins.new).stream }
     ensures count { (I.slots ins.old).stream.faults ≤ (I.slots ins.new).stream.faults }
     ensures names { I.names ins.new ≡ I.names ins.old }
@@ -136,19 +154,19 @@ fn judge_stream<I: Inputs>(alloc: Global, image: &Image, asked: &CheckWords, ins
 {
     match ins.attach(Slot::Stream, asked.stream) {
         Ok(true) => {}
-        Ok(false) => return Outcome::Unjudged(NoVerdict::Missing),
-        Err(Failed) => return Outcome::Unjudged(NoVerdict::Unopened),
+        Ok(false) => return Err(NoVerdict::Missing),
+        Err(Failed) => return Err(NoVerdict::Unopened),
     }
-    stream_outcome(judge(alloc, image, &asked.options.limits, ins))
+    verdict_or_fault(judge(alloc, image, &asked.options.limits, ins))
 }
 
-// What the answer on the stream comes to.
-fn stream_outcome(judged: Result<Verdict, Unjudged>) -> Outcome
-    ensures { result ≡ outcome_judged judged }
+// What the core's answer comes to.
+fn verdict_or_fault(judged: Result<Verdict, Unjudged>) -> Result<Verdict, NoVerdict>
+    ensures { result ≡ stream_judged judged }
 {
     match judged {
-        Ok(verdict) => Outcome::Judged(verdict),
-        Err(Unjudged::Failed) => Outcome::Unjudged(NoVerdict::Unread),
-        Err(Unjudged::Memory) => Outcome::Unjudged(NoVerdict::Memory),
+        Ok(verdict) => Ok(verdict),
+        Err(Unjudged::Failed) => Err(NoVerdict::Unread),
+        Err(Unjudged::Memory) => Err(NoVerdict::Memory),
     }
 }

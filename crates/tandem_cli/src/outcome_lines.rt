@@ -8,10 +8,11 @@ ghost use Rattle.tandem_base.specs.Texts.{newline};
 ghost use Rattle.tandem_io.specs.Causes.{HasCause};
 ghost use Rattle.tandem_base.specs.Puts.{Puts};
 
-use elf_image::{ImageFault, TooLarge};
+use super::file_fault::FileFault;
+use elf_image::TooLarge;
+use numerals::put_decimal;
 use tandem_base::put;
 use tandem_io::{Failed, Sink, write_all};
-use verdict_report::put_decimal;
 
 /// Writes the words that `check` takes. After an error the sink took a front of the line.
 pub fn print_usage<K: Sink>(out: &mut K) -> Result<(), Failed>
@@ -47,8 +48,8 @@ pub fn print_failed<K: Sink>(name: &str, out: &mut K) -> Result<(), Failed>
     print_parts(b"INPUT failed ", name.as_bytes(), b"\n", out)
 }
 
-/// Writes why the image is none. After an error the sink took a front of the line.
-pub fn print_image_fault<K: Sink>(fault: &ImageFault, out: &mut K) -> Result<(), Failed>
+/// Writes why a file is no image. After an error the sink took a front of the line.
+pub fn print_image_fault<K: Sink>(fault: &FileFault, out: &mut K) -> Result<(), Failed>
     ensures ok { OnOk result (Appends (K.written out.old) (K.written out.new) (image_line fault.now)) }
     ensures err { OnErr result (TakesFront (K.written out.old) (K.written out.new) (image_line fault.now)) }
     ensures cause { HasCause (K.faults out.old) (K.faults out.new) result }
@@ -58,8 +59,8 @@ pub fn print_image_fault<K: Sink>(fault: &ImageFault, out: &mut K) -> Result<(),
     print_image_over(fault, &mut text, out)
 }
 
-// Writes why the image is none, over 64 lent bytes.
-fn print_image_over<K: Sink>(fault: &ImageFault, text: &mut [u8], out: &mut K) -> Result<(), Failed>
+// Writes why a file is no image, over 64 lent bytes.
+fn print_image_over<K: Sink>(fault: &FileFault, text: &mut [u8], out: &mut K) -> Result<(), Failed>
     requires { length text.old ≡ 64 }
     ensures ok { OnOk result (Appends (K.written out.old) (K.written out.new) (image_line fault.now)) }
     ensures err { OnErr result (TakesFront (K.written out.old) (K.written out.new) (image_line fault.now)) }
@@ -106,26 +107,25 @@ fn print_two<K: Sink>(front: &[u8], back: &[u8], out: &mut K) -> Result<(), Fail
     print_text(back, out)
 }
 
-// Puts why the image is none.
-fn put_image_fault(out: &mut [u8], at: usize, fault: &ImageFault) -> usize
+// Puts why a file is no image.
+fn put_image_fault(out: &mut [u8], at: usize, fault: &FileFault) -> usize
     requires { at + 64 ≤ length out.old }
     ensures puts { Puts at out.old result out.new (image_line fault.now) }
     ensures bound { result ≤ at + 64 }
 {
     match *fault {
-        ImageFault::NotElf => put(out, at, b"IMAGE 1 NotElf\n"),
-        ImageFault::Class => put(out, at, b"IMAGE 2 Class\n"),
-        ImageFault::Kind => put(out, at, b"IMAGE 3 Kind\n"),
-        ImageFault::Machine => put(out, at, b"IMAGE 4 Machine\n"),
-        ImageFault::Headers(offset) => put_numbered(out, at, b"IMAGE 5 Headers ", offset),
-        ImageFault::Segment(index) => put_numbered(out, at, b"IMAGE 6 Segment ", index),
-        ImageFault::Overlap(first, second) => put_overlap(out, at, first, second),
-        ImageFault::TooLarge(limit) => {
+        FileFault::NotElf => put(out, at, b"IMAGE 1 NotElf\n"),
+        FileFault::Class => put(out, at, b"IMAGE 2 Class\n"),
+        FileFault::Kind => put(out, at, b"IMAGE 3 Kind\n"),
+        FileFault::Machine => put(out, at, b"IMAGE 4 Machine\n"),
+        FileFault::Headers(offset) => put_numbered(out, at, b"IMAGE 5 Headers ", offset),
+        FileFault::Segment(index) => put_numbered(out, at, b"IMAGE 6 Segment ", index),
+        FileFault::Overlap(first, second) => put_overlap(out, at, first, second),
+        FileFault::TooLarge(limit) => {
             let end = put(out, at, b"IMAGE 8 TooLarge ");
             let end = put_excess(out, end, limit);
             put(out, end, b"\n")
         }
-        ImageFault::Memory => put(out, at, b""),
     }
 }
 

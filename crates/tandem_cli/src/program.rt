@@ -1,6 +1,6 @@
 //! The words that the program was started with, handed to the top call.
 
-ghost use Rattle.std.specs.Prelude.{◌≡◌, ◌≤◌, IfOk, IfErr, OnErr, drop, map};
+ghost use Rattle.std.specs.Prelude.{◌≡◌, ◌≤◌, IfOk, IfErr, None, OnErr, drop, map};
 ghost use Rattle.std.specs.IoError.{error_kind};
 ghost use Rattle.std.specs.String.{string_bytes};
 ghost use Rattle.std.specs.Vec.Iter.{into_iter_items};
@@ -28,7 +28,10 @@ pub fn run_program<I: Inputs, K: Sink>(
     ensures no_text { OnErr started (AnswersUsage result
         (K.written out.old) (K.written out.new) (K.faults out.old) (K.faults out.new)) }
     ensures refused { IfErr started (λ error. error_kind error ≡ ErrorKind.OutOfMemory → result ≡ 7) }
+    ensures usage { IfOk started (λ args. asked (map string_bytes (drop 1 (into_iter_items args))) ≡ None →
+        ins.new ≡ ins.old) }
     ensures untouched { OnErr started (ins.new ≡ ins.old) }
+    ensures names { I.names ins.new ≡ I.names ins.old }
     ensures count { K.faults out.old ≤ K.faults out.new }
 {
     match started {
@@ -43,6 +46,8 @@ fn run_words<I: Inputs, K: Sink>(alloc: Global, args: Args, ins: &mut I, out: &m
     ensures words { AnswersTo (asked (map string_bytes (drop 1 (into_iter_items args))))
         (I.names ins.old) (I.slots ins.old) (I.slots ins.new) result
         (K.written out.old) (K.written out.new) (K.faults out.old) (K.faults out.new) }
+    ensures usage { asked (map string_bytes (drop 1 (into_iter_items args))) ≡ None → ins.new ≡ ins.old }
+    ensures names { I.names ins.new ≡ I.names ins.old }
     ensures count { K.faults out.old ≤ K.faults out.new }
 {
     match words_behind(alloc, args) {

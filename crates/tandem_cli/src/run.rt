@@ -4,10 +4,9 @@ ghost use Rattle.std.specs.Prelude.{◌≡◌, ◌≤◌, IfSome, IfOk, IfErr, O
 ghost use Rattle.std.specs.Io.KnownBytes.{Appends};
 ghost use Rattle.std.specs.String.{string_bytes};
 ghost use Rattle.tandem_io.specs.Causes.{HasCause};
-ghost use Rattle.tandem_cli.specs.Answers.{AnswersUsage, ChecksAs, NoFaultRose, Prints, Settled};
-ghost use Rattle.tandem_cli.specs.Answers.{line_for, no_image_line, no_image_status, no_verdict_line};
-ghost use Rattle.tandem_cli.specs.Answers.{no_verdict_status, status_for, status_of_verdict};
-ghost use Rattle.tandem_cli.specs.Outcomes.{TakesFront, usage_line};
+ghost use Rattle.tandem_cli.specs.Answers.{AnswersUsage, ChecksAs, NoFaultRose, PrintsDue, Settled};
+ghost use Rattle.tandem_cli.specs.Answers.{due_for, due_without_image, due_without_verdict, status_of_verdict};
+ghost use Rattle.tandem_cli.specs.Outcomes.{TakesFront};
 ghost use Rattle.verdict_report.specs.Lines.{line_of};
 ghost use Rattle.tandem_cli.specs.Seen.{asked_seen};
 ghost use Rattle.tandem_cli.specs.Words.{Asked, asked};
@@ -111,7 +110,7 @@ fn print_verdict<K: Sink>(verdict: &Verdict, out: &mut K) -> Result<(), Failed>
 
 // Writes why there is no image of this name, and answers the status.
 fn report_no_image<K: Sink>(name: &str, why: &NoImage, out: &mut K) -> u8
-    ensures prints { Prints (no_image_line name.now why.now) (no_image_status why.now) result
+    ensures prints { PrintsDue (due_without_image name.now why.now) result
         (K.written out.old) (K.written out.new) (K.faults out.old) (K.faults out.new) }
     ensures count { K.faults out.old ≤ K.faults out.new }
 {
@@ -126,7 +125,7 @@ fn report_no_image<K: Sink>(name: &str, why: &NoImage, out: &mut K) -> u8
 
 // Writes why there is no verdict on the stream of this name, and answers the status.
 fn report_no_verdict<K: Sink>(name: &str, why: &NoVerdict, out: &mut K) -> u8
-    ensures prints { Prints (no_verdict_line name.now why.now) (no_verdict_status why.now) result
+    ensures prints { PrintsDue (due_without_verdict name.now why.now) result
         (K.written out.old) (K.written out.new) (K.faults out.old) (K.faults out.new) }
     ensures count { K.faults out.old ≤ K.faults out.new }
 {
@@ -140,7 +139,7 @@ fn report_no_verdict<K: Sink>(name: &str, why: &NoVerdict, out: &mut K) -> u8
 
 // Writes the line of an outcome, and answers its status.
 fn report<K: Sink>(asked: &CheckWords, outcome: &Outcome, out: &mut K) -> u8
-    ensures prints { Prints (line_for (asked_seen asked.now) outcome.now) (status_for outcome.now) result
+    ensures prints { PrintsDue (due_for (asked_seen asked.now) outcome.now) result
         (K.written out.old) (K.written out.new) (K.faults out.old) (K.faults out.new) }
     ensures count { K.faults out.old ≤ K.faults out.new }
 {

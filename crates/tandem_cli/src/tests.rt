@@ -1,7 +1,10 @@
+//! The grammar of the words, and the lines of outcomes.
+
 use super::chosen::CheckOptions;
+use super::file_fault::FileFault;
 use super::outcome_lines::{print_failed, print_image_fault, print_missing, print_usage};
 use super::words::parse;
-use elf_image::{ImageFault, Ram, TooLarge};
+use elf_image::{Ram, TooLarge};
 use std::alloc::{AllocError, Global};
 use std::process::Abort;
 use std::test::Fail;
@@ -214,7 +217,7 @@ fn refuses_words(rt: HostRuntime) {
 }
 
 // The fault's line is this one.
-fn tells(rt: &impl Abort, alloc: Global, fault: ImageFault, line: &str) {
+fn tells(rt: &impl Abort, alloc: Global, fault: FileFault, line: &str) {
     let mut out = MemSink::new(alloc, 99, 9).expect(rt, "memory");
     assert_eq!(rt; print_image_fault(&fault, &mut out), Ok(()));
     assert_eq!(rt; out.bytes(), line.as_bytes());
@@ -223,42 +226,41 @@ fn tells(rt: &impl Abort, alloc: Global, fault: ImageFault, line: &str) {
 #[test]
 fn prints_image_faults(rt: HostRuntime) {
     let alloc = rt.alloc();
-    tells(&rt, alloc, ImageFault::NotElf, "IMAGE 1 NotElf\n");
-    tells(&rt, alloc, ImageFault::Class, "IMAGE 2 Class\n");
-    tells(&rt, alloc, ImageFault::Kind, "IMAGE 3 Kind\n");
-    tells(&rt, alloc, ImageFault::Machine, "IMAGE 4 Machine\n");
-    tells(&rt, alloc, ImageFault::Headers(54), "IMAGE 5 Headers 54\n");
+    tells(&rt, alloc, FileFault::NotElf, "IMAGE 1 NotElf\n");
+    tells(&rt, alloc, FileFault::Class, "IMAGE 2 Class\n");
+    tells(&rt, alloc, FileFault::Kind, "IMAGE 3 Kind\n");
+    tells(&rt, alloc, FileFault::Machine, "IMAGE 4 Machine\n");
+    tells(&rt, alloc, FileFault::Headers(54), "IMAGE 5 Headers 54\n");
     tells(
         &rt,
         alloc,
-        ImageFault::Segment(65535),
+        FileFault::Segment(65535),
         "IMAGE 6 Segment 65535\n",
     );
     tells(
         &rt,
         alloc,
-        ImageFault::Overlap(0, 12),
+        FileFault::Overlap(0, 12),
         "IMAGE 7 Overlap 0 12\n",
     );
     tells(
         &rt,
         alloc,
-        ImageFault::TooLarge(TooLarge::File(268_435_457)),
+        FileFault::TooLarge(TooLarge::File(268_435_457)),
         "IMAGE 8 TooLarge File 268435457\n",
     );
     tells(
         &rt,
         alloc,
-        ImageFault::TooLarge(TooLarge::Ranges(65)),
+        FileFault::TooLarge(TooLarge::Ranges(65)),
         "IMAGE 8 TooLarge Ranges 65\n",
     );
     tells(
         &rt,
         alloc,
-        ImageFault::TooLarge(TooLarge::Sum(u128::MAX)),
+        FileFault::TooLarge(TooLarge::Sum(u128::MAX)),
         "IMAGE 8 TooLarge Sum 340282366920938463463374607431768211455\n",
     );
-    tells(&rt, alloc, ImageFault::Memory, "");
 }
 
 #[test]

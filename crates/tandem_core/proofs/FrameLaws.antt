@@ -1,13 +1,11 @@
 -- The frames of messages, and what they decide.
 use Rattle.std.proofs.Common.{◌≡◌, ℕ, ◌+◌, Bool, true, false, List, [], ◌∷◌, ◌++◌, length, refl, sym, ap, ◌∙◌}
-use Rattle.std.proofs.Common.{Option, None, Some, Ok, append_assoc, length-append}
+use Rattle.std.proofs.Common.{Option, None, Some, append_assoc, length-append}
 use Rattle.std.specs.Prelude.{All, if◌then◌else◌}
 use Rattle.std.proofs.lemmas.List.Elements.{All-head, All-tail}
 use Rattle.msg_frames.specs.declared.message.Message.{Message}
 use Rattle.msg_frames.specs.Frames.{frame, Spells}
-use Rattle.msg_frames.specs.Reading.{reading}
 use Rattle.msg_frames.specs.Cut.{cut, is_end}
-use Rattle.msg_frames.specs.Taking.{IsWhole, IsShort}
 use Rattle.msg_frames.proofs.CutLaws.{cut_message, whole_frame}
 use Rattle.msg_frames.proofs.Frames.{reading_frame}
 use Rattle.elf_image.specs.Images.{Loaded}

@@ -1,11 +1,10 @@
 -- The verdict on a stream, frame by frame.
-use Rattle.std.proofs.Common.{◌≡◌, ℕ, ◌+◌, ◌≤◌, ◌<◌, List, [], ◌∷◌, ◌++◌, length, drop, refl, sym, ap, ◌∙◌}
-use Rattle.std.proofs.Common.{arith, None, Some, append_assoc}
+use Rattle.std.proofs.Common.{◌≡◌, ℕ, ◌+◌, List, [], ◌∷◌, ◌++◌, length, drop, refl, sym, ap, ◌∙◌}
+use Rattle.std.proofs.Common.{None, Some, append_assoc}
 use Rattle.std.specs.declared.option.Option.{Option}
 use Rattle.std.proofs.Math.Seq.{drop-append_seam}
 use Rattle.msg_frames.specs.declared.message.Message.{Message}
 use Rattle.msg_frames.specs.declared.message.FrameFault.{FrameFault}
-use Rattle.msg_frames.specs.Frames.{frame}
 use Rattle.msg_frames.specs.Cut.{Cut, Ending, End, Bad, Short, cut, needed}
 use Rattle.elf_image.specs.Images.{Loaded}
 use Rattle.verdict_report.specs.declared.verdict.Verdict.{Verdict}

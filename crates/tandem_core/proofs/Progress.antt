@@ -1,5 +1,5 @@
 -- How far the judging of a source has come, and what each next frame makes of it.
-use Rattle.std.proofs.Common.{◌≡◌, ℕ, ◌+◌, ◌≤◌, ◌<◌, ◌⊎◌, inl, inr, Bool, true, false, List, [], ◌∷◌, ◌++◌}
+use Rattle.std.proofs.Common.{◌≡◌, ℕ, ◌+◌, ◌⊎◌, inl, inr, Bool, true, false, List, [], ◌∷◌, ◌++◌}
 use Rattle.std.proofs.Common.{length, refl, sym, ap, ◌∙◌, subst, arith, Option, None, Some, Ok, Err}
 use Rattle.std.proofs.Common.{append_assoc, length-append}
 use Rattle.std.specs.Prelude.{All, if◌then◌else◌}
@@ -9,10 +9,10 @@ use Rattle.std.proofs.lemmas.List.Elements.{All-nil, All-cons}
 use Rattle.tandem_io.specs.Told.{Log}
 use Rattle.msg_frames.specs.declared.message.Message.{Message}
 use Rattle.msg_frames.specs.declared.message.FrameFault.{FrameFault}
-use Rattle.msg_frames.specs.Frames.{frame, Spells}
+use Rattle.msg_frames.specs.Frames.{Spells}
 use Rattle.msg_frames.specs.Reading.{reading}
-use Rattle.msg_frames.specs.Cut.{cut, needed, is_end}
-use Rattle.msg_frames.specs.Taking.{Took, IsWhole, IsShort}
+use Rattle.msg_frames.specs.Cut.{cut, is_end}
+use Rattle.msg_frames.specs.Taking.{Took, IsWholeFrame, IsShort}
 use Rattle.msg_frames.proofs.Taking.{Took-nil, Took-trans}
 use Rattle.msg_frames.proofs.CutLaws.{needed_least, needed_front, cut_message, cut_end, cut_bad, cut_short}
 use Rattle.elf_image.specs.Images.{Loaded}
@@ -25,7 +25,7 @@ use Rattle.tandem_core.specs.Runs.{frames_of, offset_of}
 use Rattle.tandem_core.specs.Judgements.{Judgement, judgement, decided, accept_of, verdict_at, bad_frame_of}
 use Rattle.tandem_core.specs.Judgements.{truncated_of}
 use Rattle.tandem_core.specs.Cores.{Stands}
-use Rattle.tandem_core.specs.Judging.{IsSpelled, Decides, Lacks}
+use Rattle.tandem_core.specs.Judging.{IsSpelled, Decides, Halts, Lacks}
 use Rattle.tandem_core.proofs.JudgeLaws.{judged_after, after_decision, after_end, after_bad, after_short}
 use Rattle.tandem_core.proofs.FrameLaws.{frames_size, frames_judged}
 
@@ -94,7 +94,7 @@ at_size v n = record { verdict = v; taken = n }
 -- a message that decides
 given_at : {image : Loaded} {limits : Limits} {core : Core} {left left' left'' : Option (List ℕ)} {log log' : Log}
     (front : List ℕ) (m : Message) (v : Verdict) (p : Progress image limits core left left' log log') →
-    IsWhole front → reading front ≡ Ok m → Spells front m → decided image limits p.before m ≡ Some v →
+    IsWholeFrame front → reading front ≡ Ok m → Spells front m → decided image limits p.before m ≡ Some v →
     Decides image limits (frames_of p.before ++ front) left'' v
 given_at {image} {limits} {core} {left} {left'} {left''} {log} {log'} front m v p whole reads spells here =
     let size = grown p.before front m spells in
@@ -113,7 +113,7 @@ given_at {image} {limits} {core} {left} {left'} {left''} {log} {log'} front m v 
 -- the End
 given_at_end : {image : Loaded} {limits : Limits} {core : Core} {left left' left'' : Option (List ℕ)} {log log' : Log}
     (front : List ℕ) (m : Message) (v : Verdict) (p : Progress image limits core left left' log log') →
-    IsWhole front → reading front ≡ Ok m → Spells front m → decided image limits p.before m ≡ None →
+    IsWholeFrame front → reading front ≡ Ok m → Spells front m → decided image limits p.before m ≡ None →
     is_end m.body ≡ true → v ≡ accept_of (m ∷ p.before) →
     Decides image limits (frames_of p.before ++ front) left'' v
 given_at_end {image} {limits} {core} {left} {left'} {left''} {log} {log'} front m v p whole reads spells here ends is =
@@ -138,7 +138,7 @@ either_way None false v w e = absurd (cc)
 -- a message that ends with a verdict
 pub given_by : {image : Loaded} {limits : Limits} {core : Core} {left left' left'' : Option (List ℕ)} {log log' : Log}
     (front : List ℕ) (m : Message) (v : Verdict) (p : Progress image limits core left left' log log') →
-    IsWhole front → reading front ≡ Ok m → Spells front m → verdict_at image limits p.before m ≡ Some v →
+    IsWholeFrame front → reading front ≡ Ok m → Spells front m → verdict_at image limits p.before m ≡ Some v →
     Decides image limits (frames_of p.before ++ front) left'' v
 given_by {image} {limits} {core} {left} {left'} {left''} {log} {log'} front m v p whole reads spells is =
     elim (either_way (decided image limits p.before m) (is_end m.body) v (accept_of (m ∷ p.before)) is) [
@@ -149,7 +149,7 @@ given_by {image} {limits} {core} {left} {left'} {left''} {log} {log'} front m v 
 -- a frame that spells no message
 pub malformed : {image : Loaded} {limits : Limits} {core : Core} {left left' left'' : Option (List ℕ)} {log log' : Log}
     (front : List ℕ) (f : FrameFault) (v : Verdict) (p : Progress image limits core left left' log log') →
-    IsWhole front → reading front ≡ Err f → v ≡ verdict.Reject (bad_frame_of p.before f) →
+    IsWholeFrame front → reading front ≡ Err f → v ≡ verdict.Reject (bad_frame_of p.before f) →
     Decides image limits (frames_of p.before ++ front) left'' v
 malformed {image} {limits} {core} {left} {left'} {left''} {log} {log'} front f v p whole reads is =
     let least = needed_least front in
@@ -193,4 +193,17 @@ lacks_part front p short = record {
   spelled = p.spelled;
   quiet = p.stands.quiet;
   short = short;
+}
+
+-- a message that is whole, and of which nothing more is known
+pub halts_at : {image : Loaded} {limits : Limits} {core : Core} {left left' : Option (List ℕ)} {log log' : Log}
+    (front : List ℕ) (m : Message) (p : Progress image limits core left left' log log') → Spells front m →
+    Halts image limits (frames_of p.before ++ front)
+halts_at front m p spells = record {
+  before = p.before;
+  last = Some m;
+  is = ap (λ (bytes : List ℕ). frames_of p.before ++ bytes) spells.is;
+  spelled = p.spelled;
+  spelled_last = subst (λ (bytes : List ℕ). Spells bytes m) spells.is spells;
+  quiet = p.stands.quiet;
 }

@@ -1,5 +1,5 @@
 -- What a core stands for after one message more.
-use Rattle.std.proofs.Common.{◌≡◌, ◌≢◌, ℕ, ◌+◌, ◌<◌, ◌≤◌, length, List, ◌∷◌, Bool, true, false, nat_lt, Option}
+use Rattle.std.proofs.Common.{◌≡◌, ◌≢◌, ℕ, ◌+◌, ◌<◌, length, List, ◌∷◌, Bool, true, false, nat_lt, Option}
 use Rattle.std.proofs.Common.{None, Some, Result, Ok, Err, refl, sym, ap, subst, ◌∙◌, arith}
 use Rattle.std.specs.Prelude.{if◌then◌else◌, slice_set, slice_index_or, ◌==◌, IfNone, OnOk}
 use Rattle.std.specs.Option.{option_map_or}

@@ -39,19 +39,19 @@ rd_want_of None (Some rd) = want.Value rd
 rd_want_of (Some last) (Some rd) = want.AtLeast (record { number = rd.number; value = last })
 
 -- what is reported of a register is what is wanted of it
-abbrev pub meets : RdWant → Option RdValue → Bool
-meets want.Absent None = true
-meets want.Absent (Some got) = false
-meets (want.Value rd) None = false
-meets (want.Value rd) (Some got) = (rd.number == got.number) && (rd.value == got.value)
-meets (want.Nonzero number) None = false
-meets (want.Nonzero number) (Some got) = (number == got.number) && not (got.value == 0)
-meets (want.AtLeast rd) None = false
-meets (want.AtLeast rd) (Some got) = (rd.number == got.number) && nat_le rd.value got.value
+abbrev pub meets_want : RdWant → Option RdValue → Bool
+meets_want want.Absent None = true
+meets_want want.Absent (Some got) = false
+meets_want (want.Value rd) None = false
+meets_want (want.Value rd) (Some got) = (rd.number == got.number) && (rd.value == got.value)
+meets_want (want.Nonzero number) None = false
+meets_want (want.Nonzero number) (Some got) = (number == got.number) && not (got.value == 0)
+meets_want (want.AtLeast rd) None = false
+meets_want (want.AtLeast rd) (Some got) = (rd.number == got.number) && nat_le rd.value got.value
 
 -- the register and its value
 abbrev pub rd_fault_of : RdWant → Option RdValue → Option Fault
-rd_fault_of want got = if meets want got then None else Some (fault.Rd want got)
+rd_fault_of want got = if meets_want want got then None else Some (fault.Rd want got)
 
 -- the same CSR with the same value
 abbrev pub same_csr : CsrValue → CsrValue → Bool

@@ -1,6 +1,6 @@
 -- What a core stands for, and its answers.
-use Rattle.std.specs.Prelude.{ℕ, ◌≡◌, ◌+◌, ◌<◌, nat_lt, true, false, Option, Some, None, Result, Ok, Err}
-use Rattle.std.specs.Prelude.{if◌then◌else◌, List, ◌∷◌, length, slice_index_or}
+use Rattle.std.specs.Prelude.{ℕ, ◌≡◌, ◌+◌, ◌<◌, nat_lt, Option, Some, None, Result, Ok, Err}
+use Rattle.std.specs.Prelude.{if◌then◌else◌, List, length, slice_index_or}
 use Rattle.std.specs.Option.{option_map_or}
 use Rattle.msg_frames.specs.declared.message.OpenInfo.{OpenInfo}
 use Rattle.msg_frames.specs.declared.message.Message.{Message}
@@ -33,16 +33,24 @@ pub record HasCounted (core : Core) (counted : List Message) : Type 0 where
   pub count : core.count ≡ length counted
   pub offset : core.offset ≡ offset_of counted
 
+-- the verdict with which a message ended, none where none did
+abbrev pub ended_with : Core → Option Verdict
+ended_with core = core.verdict
+
+-- no message ended with a verdict yet
+abbrev pub IsGoing : Core → Type 0
+IsGoing core = ended_with core ≡ None
+
 -- a message ended with this verdict
 abbrev pub HasEnded : Core → Verdict → Type 0
-HasEnded core v = core.verdict ≡ Some v
+HasEnded core v = ended_with core ≡ Some v
 
 -- The core has taken these messages, newest first, against this image and within these limits, and none of them ended
 -- with a verdict.
 pub record Stands (image : Loaded) (limits : Limits) (core : Core) (before : List Message) : Type 0 where
   pub image_is : loaded_of core.image.now ≡ image
   pub limits_is : core.limits ≡ limits
-  pub going : core.verdict ≡ None
+  pub going : IsGoing core
   pub quiet : IsQuiet image limits before
   pub count : core.count ≡ length before
   pub offset : core.offset ≡ offset_of before

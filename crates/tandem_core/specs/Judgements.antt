@@ -1,5 +1,5 @@
 -- The verdict on a stream.
-use Rattle.std.specs.Prelude.{ℕ, ◌≡◌, ◌+◌, nat_lt, Bool, true, false, Option, Some, None, if◌then◌else◌, List}
+use Rattle.std.specs.Prelude.{ℕ, ◌≡◌, ◌+◌, nat_lt, Option, Some, None, if◌then◌else◌, List}
 use Rattle.std.specs.Prelude.{[], ◌∷◌, length, drop}
 use Rattle.msg_frames.specs.declared.message.Message.{Message}
 use Rattle.msg_frames.specs.declared.message.FrameFault.{FrameFault}

@@ -1,5 +1,6 @@
 -- What is judged of a source.
-use Rattle.std.specs.Prelude.{ℕ, ◌≡◌, ◌⊎◌, List, ◌++◌, length, All, Option, Result, Ok, Err}
+use Rattle.std.specs.Prelude.{ℕ, ◌≡◌, ◌⊎◌, List, [], ◌++◌, length, All, Option, IfSome, Result, Ok, Err}
+use Rattle.std.specs.Option.{option_map_or}
 use Rattle.std.specs.Io.KnownBytes.{IsAtEnd}
 use Rattle.elf_image.specs.Images.{Loaded}
 use Rattle.msg_frames.specs.declared.message.Message.{Message}
@@ -33,8 +34,18 @@ pub record Lacks (image : Loaded) (limits : Limits) (got : List ℕ) : Type 0 wh
   pub quiet : IsQuiet image limits before
   pub short : IsShort part
 
--- what an answer says of the bytes that were taken and of what is left: nothing where memory was refused
+-- Memory was refused within these bytes: they are the frames of these messages, none of which ends with a verdict, and
+-- at most the frame of one message more.
+pub record Halts (image : Loaded) (limits : Limits) (got : List ℕ) : Type 0 where
+  pub before : List Message
+  pub last : Option Message
+  pub is : got ≡ frames_of before ++ option_map_or frame last []
+  pub spelled : All IsSpelled before
+  pub spelled_last : IfSome last IsSpelled
+  pub quiet : IsQuiet image limits before
+
+-- what an answer says of the bytes that were taken and of what is left
 abbrev pub JudgedIs : Loaded → Limits → Result Verdict Unjudged → List ℕ → Option (List ℕ) → Type 0
 JudgedIs image limits (Ok v) got left = Decides image limits got left v
 JudgedIs image limits (Err unjudged.Failed) got left = Lacks image limits got
-JudgedIs image limits (Err unjudged.Memory) got left = Unit {0}
+JudgedIs image limits (Err unjudged.Memory) got left = Halts image limits got

@@ -1,5 +1,5 @@
 -- How far the counts of a run may go.
-use Rattle.std.specs.Prelude.{ℕ, ◌≤◌}
+use Rattle.std.specs.Prelude.{◌≤◌}
 use Rattle.tandem_core.specs.declared.limits.Limits.{Limits}
 
 -- the greatest limits that can be asked for

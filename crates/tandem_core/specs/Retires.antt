@@ -1,5 +1,5 @@
 -- A hart's reports, one at a time: what is wrong with a Retire or a Poke, and what it leaves behind.
-use Rattle.std.specs.Prelude.{ℕ, ◌==◌, Bool, true, false, Some, None, if◌then◌else◌, is_some, unwrap_or}
+use Rattle.std.specs.Prelude.{ℕ, ◌==◌, Bool, true, false, Some, None, if◌then◌else◌, is_some}
 use Rattle.std.specs.declared.option.Option.{Option}
 use Rattle.msg_frames.specs.declared.message.Poke.{Poke}
 use Rattle.msg_frames.specs.declared.message.RdValue.{RdValue}
@@ -7,7 +7,6 @@ use Rattle.msg_frames.specs.declared.message.Retire.{Retire}
 use Rattle.elf_image.specs.Images.{Loaded}
 use Rattle.rv_decode.specs.declared.instruction.Insn.{Insn}
 use Rattle.rv_decode.specs.declared.instruction.Insn.TheVariants as insn
-use Rattle.rv_step.specs.declared.hart.Hart.{Hart}
 use Rattle.rv_step.specs.declared.plan.Config.{Config}
 use Rattle.rv_step.specs.declared.effect.Effect.{Effect}
 use Rattle.rv_step.specs.declared.effect.Outside.{Outside}
@@ -104,8 +103,8 @@ difference_of clock pc word effect retire =
     or_else written_fault_of clock effect retire
 
 -- the step of the hart, with what the report says of the outside
-abbrev pub step_of : Loaded → Config → HartRun → Retire → Done
-step_of image config run retire = Step run.hart image config (outside_of retire)
+abbrev pub reported_step : Loaded → Config → HartRun → Retire → Done
+reported_step image config run retire = Step run.hart image config (outside_of retire)
 
 -- the first fault of a Retire of this tag, where the hart is so before it
 abbrev pub retire_fault_of : Loaded → Config → HartRun → ℕ → Retire → Option Fault
@@ -114,12 +113,12 @@ retire_fault_of image config run tag retire =
     tag_fault_of run.last tag
     or_else unbuilt_fault_of plan.doing
     or_else difference_of (clock_read plan.doing run.clocks) run.hart.pc plan.word
-    (step_of image config run retire).effect retire
+    (reported_step image config run retire).effect retire
 
 -- the hart after a Retire of this tag
 abbrev pub run_retired : Loaded → Config → HartRun → ℕ → Retire → HartRun
 run_retired image config run tag retire = record {
-  hart = (step_of image config run retire).hart;
+  hart = (reported_step image config run retire).hart;
   last = Some tag;
   clocks = clocks_after (plan_of run.hart image config).doing retire.rd run.clocks;
 }

@@ -3,7 +3,7 @@
 ghost use Rattle.std.specs.Prelude.{◌≡◌};
 ghost use Rattle.tandem_base.specs.FirstFault.{passed};
 ghost use Rattle.tandem_core.specs.Compares.{tag_fault_of, pc_fault_of, word_fault_of, trap_fault_of};
-ghost use Rattle.tandem_core.specs.Compares.{next_fault_of, rd_want_of, meets, rd_fault_of, csr_entry_fault_of};
+ghost use Rattle.tandem_core.specs.Compares.{next_fault_of, rd_want_of, meets_want, rd_fault_of, csr_entry_fault_of};
 ghost use Rattle.tandem_core.specs.Compares.{csr_fault_of};
 
 use msg_frames::{CsrList, CsrValue, RdValue};
@@ -81,7 +81,7 @@ fn rd_want(last: Option<u64>, rd: Option<RdValue>) -> RdWant
 /// Whether what is reported of a register is what is wanted of it. `last` is the last reported value
 /// of the counter that the instruction reads, None where it reads none.
 fn is_met(last: Option<u64>, rd: &Option<RdValue>, got: &Option<RdValue>) -> bool
-    ensures { result ≡ meets (rd_want_of last rd.now) got.now }
+    ensures { result ≡ meets_want (rd_want_of last rd.now) got.now }
 {
     match (rd, got) {
         (None, None) => true,

@@ -77,7 +77,7 @@ fn starts(entry: u64) -> [HartRun; 16]
 }
 
 impl<'a> Core<'a> {
-    ghost use Rattle.std.specs.Prelude.{◌≡◌, ◌+◌, ◌<◌, ◌≤◌, ℕ, List, [], ◌∷◌, IfOk, OnOk, OnErr, IfSome, IfNone};
+    ghost use Rattle.std.specs.Prelude.{◌≡◌, ◌+◌, ◌<◌, ◌≤◌, ℕ, List, [], ◌∷◌, IfOk, OnOk, OnErr, IfNone};
     ghost use Rattle.std.specs.Prelude.{None, slice_set, length};
     ghost use Rattle.std.specs.Option.{option_copied};
     ghost use Rattle.msg_frames.specs.declared.message.Message.{Message};
@@ -89,7 +89,8 @@ impl<'a> Core<'a> {
     ghost use Rattle.tandem_core.specs.Limits.{HasCeilings};
     ghost use Rattle.tandem_core.specs.Runs.{offset_of, stream_fault_of, body_fault_of, run_after, message_fault_of};
     ghost use Rattle.tandem_core.specs.Judgements.{bad_frame_of, truncated_of, verdict_at};
-    ghost use Rattle.tandem_core.specs.Cores.{Stands, HasCounted, HasEnded, RunsStand, run_in, fed_as};
+    ghost use Rattle.tandem_core.specs.Cores.{Stands, HasCounted, HasEnded, IsGoing, RunsStand, run_in, fed_as};
+    ghost use Rattle.tandem_core.specs.Cores.{ended_with};
     ghost use Rattle.tandem_core.specs.Cores.{KeepsCounts, verdict_by, Counts};
 
     /// A checker of a stream against this image, before the first message.
@@ -226,7 +227,7 @@ impl<'a> Core<'a> {
 
     /// Sets the verdict, where a message that is fine or has a fault ends with one.
     fn conclude(&mut self, message: &Message, checked: Result<(), Fault>)
-        requires going { self.old.verdict ≡ None }
+        requires going { IsGoing self.old }
         ensures verdict { self.new.verdict ≡ verdict_by self.old message.now checked }
         ensures counts { KeepsCounts self.old self.new }
         ensures runs { self.new.runs ≡ self.old.runs }
@@ -285,7 +286,7 @@ impl<'a> Core<'a> {
     /// does, the verdict stands in the core.
     pub(crate) fn advance(&mut self, message: &Message) -> Result<(), AllocError>
         requires fits { Fits message.now }
-        requires going { self.old.verdict ≡ None }
+        requires going { IsGoing self.old }
         ensures stands { (image : Loaded) (limits : Limits) (before : List Message) →
             Stands image limits self.old before →
             OnOk result (IfNone (verdict_at image limits before message.now)
@@ -315,12 +316,12 @@ impl<'a> Core<'a> {
             Stands image limits self.old before →
             OnOk result (IfNone (verdict_at image limits before message.now)
             (Stands image limits self.new (message.now ∷ before))) }
-        ensures ends { (image : Loaded) (limits : Limits) (before : List Message) →
+        ensures verdict { (image : Loaded) (limits : Limits) (before : List Message) →
             Stands image limits self.old before →
-            OnOk result (IfSome (verdict_at image limits before message.now) (HasEnded self.new)) }
-        ensures counted { (image : Loaded) (limits : Limits) (before : List Message) →
-            Stands image limits self.old before →
-            OnOk result (HasCounted self.new (message.now ∷ before)) }
+            OnOk result (ended_with self.new ≡ verdict_at image limits before message.now) }
+        ensures ends { IfOk result (λ answer. answer ≡ fed_as (ended_with self.new)) }
+        ensures counted { (counted : List Message) → IsGoing self.old → HasCounted self.old counted →
+            OnOk result (HasCounted self.new (message.now ∷ counted)) }
         ensures ended { (v : Verdict) → HasEnded self.old v → IfOk result (λ answer. answer ≡ fed_as (Some v)) }
         ensures closed { (v : Verdict) → HasEnded self.old v → self.new ≡ self.old }
         ensures refused { OnErr result (self.new ≡ self.old) }

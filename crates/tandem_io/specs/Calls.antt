@@ -13,18 +13,18 @@ abbrev pub no_calls : CallRecord
 no_calls = record { made = 0; faults = 0; failing = [] }
 
 -- one more, up to the last value of a counter
-abbrev pub one_more : ℕ → ℕ
-one_more n = min (n + 1) (2 ^ 64 - 1)
+abbrev pub next_count : ℕ → ℕ
+next_count n = min (n + 1) (2 ^ 64 - 1)
 
 -- the next call is one of those that are to fail
 abbrev pub next_fails : CallRecord → Bool
-next_fails calls = list_any (λ call. call == one_more calls.made) calls.failing
+next_fails calls = list_any (λ call. call == next_count calls.made) calls.failing
 
 -- after one more call, with its fault where it failed
 abbrev pub after_call : CallRecord → Bool → CallRecord
 after_call calls fails = record calls {
-  made = one_more calls.made;
-  faults = if fails then one_more calls.faults else calls.faults;
+  made = next_count calls.made;
+  faults = if fails then next_count calls.faults else calls.faults;
 }
 
 -- with one more call that is to fail

@@ -3,7 +3,7 @@ use Rattle.std.specs.Prelude.{◌≡◌, ℕ, ◌<◌, ◌≤◌, Bool, List, []
 use Rattle.std.specs.Prelude.{Some, None, ⊤}
 use Rattle.tandem_io.specs.declared.cursor.Cursor.{Cursor}
 use Rattle.tandem_io.specs.Inputs.{Named}
-use Rattle.tandem_io.specs.Store.{Reading}
+use Rattle.tandem_io.specs.Store.{HeldSlot}
 
 -- the bytes of the content at a place
 abbrev pub content_at : List Named → Option ℕ → List ℕ
@@ -20,9 +20,9 @@ abbrev pub IsNoneBefore : Option Bool → Option ℕ → Type 0
 IsNoneBefore None file = file ≡ None
 IsNoneBefore (Some _) file = ⊤
 
--- what a cursor reads
-abbrev pub reading_at : List Named → Cursor → Reading
-reading_at files cursor = record {
+-- the slot that a cursor reads
+abbrev pub slot_at : List Named → Cursor → HeldSlot
+slot_at files cursor = record {
   left = drop cursor.at (content_at files cursor.file);
   gone = take cursor.at (content_at files cursor.file);
   ended = cursor.ended;
@@ -30,7 +30,7 @@ reading_at files cursor = record {
 }
 
 -- a cursor stands in a content that is there
-pub record IsWithin (files : List Named) (cursor : Cursor) : Type 0 where
+pub record PointsInto (files : List Named) (cursor : Cursor) : Type 0 where
   pub place : IsPlace files cursor.file
   pub at : cursor.at ≤ length (content_at files cursor.file)
   pub before : IsNoneBefore cursor.attached cursor.file

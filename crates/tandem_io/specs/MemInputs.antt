@@ -3,7 +3,7 @@ use Rattle.std.specs.Prelude.{ℕ, Result, Ok, Err}
 use Rattle.tandem_io.specs.declared.types.Slot.{Slot}
 use Rattle.tandem_io.specs.declared.types.Slot.TheVariants.{Image, Stream}
 use Rattle.tandem_io.specs.Calls.{CallRecord, no_calls}
-use Rattle.tandem_io.specs.Store.{Held, Reading, nothing_held, after_read, after_miss}
+use Rattle.tandem_io.specs.Store.{Held, HeldSlot, nothing_held, after_read, after_miss}
 
 -- what is held, and the calls on each slot
 pub record Failing : Type 0 where
@@ -26,6 +26,6 @@ with_calls Image ins calls = record ins { image = calls }
 with_calls Stream ins calls = record ins { stream = calls }
 
 -- a slot after a read of this answer
-abbrev pub after_answer : {E : Type 0} → Reading → Result ℕ E → Reading
-after_answer reading (Ok n) = after_read reading n
-after_answer reading (Err _) = after_miss reading
+abbrev pub after_answer : {E : Type 0} → HeldSlot → Result ℕ E → HeldSlot
+after_answer state (Ok n) = after_read state n
+after_answer state (Err _) = after_miss state

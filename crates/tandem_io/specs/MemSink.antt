@@ -14,16 +14,16 @@ abbrev pub empty_sink : ℕ → ℕ → Kept
 empty_sink room step = record { written = []; room = room; step = step; calls = no_calls }
 
 -- how many bytes a write of this piece takes where it doesn't fail
-abbrev pub step_of : Kept → List ℕ → ℕ
-step_of sink piece = min sink.step (length piece)
+abbrev pub write_step : Kept → List ℕ → ℕ
+write_step sink piece = min sink.step (length piece)
 
 -- the next write fails: it is one of those that are to, or would pass the room
 abbrev pub write_fails : Kept → List ℕ → Bool
-write_fails sink piece = next_fails sink.calls || nat_lt sink.room (length sink.written + step_of sink piece)
+write_fails sink piece = next_fails sink.calls || nat_lt sink.room (length sink.written + write_step sink piece)
 
 -- after a write of this piece
 abbrev pub after_write : Kept → List ℕ → Kept
 after_write sink piece = record sink {
-  written = if write_fails sink piece then sink.written else sink.written ++ take (step_of sink piece) piece;
+  written = if write_fails sink piece then sink.written else sink.written ++ take (write_step sink piece) piece;
   calls = after_call sink.calls (write_fails sink piece);
 }

@@ -8,7 +8,7 @@ use Rattle.tandem_io.specs.Inputs.{Named, SlotView, Slots}
 
 -- one slot: the bytes that it still holds, those that were taken of the content that is attached,
 -- whether the last read answered 0, and the last answer of attach
-pub record Reading : Type 0 where
+pub record HeldSlot : Type 0 where
   pub left : List ℕ
   pub gone : List ℕ
   pub ended : Bool
@@ -17,12 +17,12 @@ pub record Reading : Type 0 where
 -- the contents by name, the two slots, and how many bytes a read takes at most
 pub record Held : Type 0 where
   pub names : List Named
-  pub image : Reading
-  pub stream : Reading
+  pub image : HeldSlot
+  pub stream : HeldSlot
   pub step : ℕ
 
 -- a slot before its first attach
-abbrev pub unread : Reading
+abbrev pub unread : HeldSlot
 unread = record { left = []; gone = []; ended = false; attached = None }
 
 -- nothing is there yet
@@ -34,58 +34,58 @@ abbrev pub with_content : Held → List ℕ → List ℕ → Held
 with_content held name bytes = record held { names = held.names ++ (record { name = name; bytes = bytes } ∷ []) }
 
 -- the slot of that name
-abbrev pub reading_of : Slot → Held → Reading
-reading_of Image held = held.image
-reading_of Stream held = held.stream
+abbrev pub slot_of : Slot → Held → HeldSlot
+slot_of Image held = held.image
+slot_of Stream held = held.stream
 
 -- the slot of that name replaced
-abbrev pub with_reading : Slot → Held → Reading → Held
-with_reading Image held reading = record held { image = reading }
-with_reading Stream held reading = record held { stream = reading }
+abbrev pub with_slot : Slot → Held → HeldSlot → Held
+with_slot Image held state = record held { image = state }
+with_slot Stream held state = record held { stream = state }
 
 -- a slot after attach found this content, or none
-abbrev pub after_attach : Reading → Option (List ℕ) → Reading
-after_attach reading (Some bytes) = record reading { left = bytes; gone = []; attached = Some true }
-after_attach reading None = record reading { attached = Some false }
+abbrev pub after_attach : HeldSlot → Option (List ℕ) → HeldSlot
+after_attach state (Some bytes) = record state { left = bytes; gone = []; attached = Some true }
+after_attach state None = record state { attached = Some false }
 
 -- how many bytes a read into so many takes: as many as it can, and at most step
-abbrev pub taken_by : Reading → ℕ → ℕ → ℕ
-taken_by reading step room = min (min step room) (length reading.left)
+abbrev pub taken_by : HeldSlot → ℕ → ℕ → ℕ
+taken_by state step room = min (min step room) (length state.left)
 
 -- a slot after a read of n bytes
-abbrev pub after_read : Reading → ℕ → Reading
-after_read reading n = record reading {
-  left = drop n reading.left;
-  gone = reading.gone ++ take n reading.left;
+abbrev pub after_read : HeldSlot → ℕ → HeldSlot
+after_read state n = record state {
+  left = drop n state.left;
+  gone = state.gone ++ take n state.left;
   ended = nat_eq n 0;
 }
 
 -- what a slot lends: as many bytes as it can, and at most step
-abbrev pub lent_of : Reading → ℕ → List ℕ
-lent_of reading step = take step reading.left
+abbrev pub lent_of : HeldSlot → ℕ → List ℕ
+lent_of state step = take step state.left
 
 -- a slot after the first n bytes that it lends were taken
-abbrev pub after_skip : Reading → ℕ → Reading
-after_skip reading n = record reading {
-  left = drop n reading.left;
-  gone = reading.gone ++ take n reading.left;
-  ended = reading.ended && nat_eq n 0;
+abbrev pub after_skip : HeldSlot → ℕ → HeldSlot
+after_skip state n = record state {
+  left = drop n state.left;
+  gone = state.gone ++ take n state.left;
+  ended = state.ended && nat_eq n 0;
 }
 
 -- a slot after a read that failed
-abbrev pub after_miss : Reading → Reading
-after_miss reading = record reading { ended = false }
+abbrev pub after_miss : HeldSlot → HeldSlot
+after_miss state = record state { ended = false }
 
 -- the log of the bytes that were taken
-abbrev pub log_of : Reading → Log
-log_of reading = Some (map taken reading.gone)
+abbrev pub log_of : HeldSlot → Log
+log_of state = Some (map taken state.gone)
 
 -- what is told of one slot, with its count of faults
-abbrev pub told_of : Reading → ℕ → SlotView
-told_of reading faults = record {
-  left = Some reading.left;
-  ended = reading.ended;
-  attached = reading.attached;
+abbrev pub told_of : HeldSlot → ℕ → SlotView
+told_of state faults = record {
+  left = Some state.left;
+  ended = state.ended;
+  attached = state.attached;
   faults = faults;
 }
 

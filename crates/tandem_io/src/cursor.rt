@@ -3,7 +3,7 @@
 ghost use Rattle.std.specs.Prelude.{◌≡◌, ◌<◌, ◌≤◌, [], length, take, IfOk, IfSome, IfNone, is_some, Some, None};
 ghost use Rattle.std.specs.Prelude.{bytes_eq};
 ghost use Rattle.tandem_io.specs.Inputs.{content_of};
-ghost use Rattle.tandem_io.specs.Cursor.{content_at, IsPlace, IsWithin, reading_at};
+ghost use Rattle.tandem_io.specs.Cursor.{content_at, IsPlace, PointsInto, slot_at};
 ghost use Rattle.tandem_io.specs.Store.{taken_by, after_attach, after_read, lent_of, after_skip};
 
 use std::alloc::{AllocError, Global};
@@ -98,11 +98,11 @@ fn bytes_at(files: &[NamedBytes], file: Option<usize>) -> &[u8]
 /// Sets the cursor before the first byte of the content of that name, if it is there, and answers
 /// whether it is.
 pub(super) fn attach_at(files: &[NamedBytes], cursor: &mut Cursor, name: &str) -> bool
-    requires { IsWithin files.now cursor.old }
-    ensures within { IsWithin files.now cursor.new }
+    requires { PointsInto files.now cursor.old }
+    ensures within { PointsInto files.now cursor.new }
     ensures answer { result ≡ is_some (content_of files.now name.now) }
-    ensures after { reading_at files.now cursor.new ≡
-        after_attach (reading_at files.now cursor.old) (content_of files.now name.now) }
+    ensures after { slot_at files.now cursor.new ≡
+        after_attach (slot_at files.now cursor.old) (content_of files.now name.now) }
 {
     match find(files, name) {
         Some(place) => {
@@ -125,14 +125,14 @@ pub(super) fn read_at(
     step: usize,
     buf: &mut [u8],
 ) -> usize
-    requires within { IsWithin files.now cursor.old }
+    requires within { PointsInto files.now cursor.old }
     requires room { 0 < length buf.old }
     requires step { 1 ≤ step }
-    ensures within { IsWithin files.now cursor.new }
-    ensures answer { result ≡ taken_by (reading_at files.now cursor.old) step (length buf.old) }
-    ensures after { reading_at files.now cursor.new ≡ after_read (reading_at files.now cursor.old) result }
-    ensures bytes { take result buf.new ≡ take result (reading_at files.now cursor.old).left }
-    ensures end { result ≡ 0 → (reading_at files.now cursor.old).left ≡ [] }
+    ensures within { PointsInto files.now cursor.new }
+    ensures answer { result ≡ taken_by (slot_at files.now cursor.old) step (length buf.old) }
+    ensures after { slot_at files.now cursor.new ≡ after_read (slot_at files.now cursor.old) result }
+    ensures bytes { take result buf.new ≡ take result (slot_at files.now cursor.old).left }
+    ensures end { result ≡ 0 → (slot_at files.now cursor.old).left ≡ [] }
     ensures empty { cursor.old.attached ≡ None → result ≡ 0 }
 {
     let bytes = bytes_at(files, cursor.file);
@@ -145,8 +145,8 @@ pub(super) fn read_at(
 
 /// The next bytes at the cursor, as many as it can and at most `step`.
 pub(super) fn ready_at<'a>(files: &'a [NamedBytes], cursor: &Cursor, step: usize) -> &'a [u8]
-    requires { IsWithin files.now cursor.now }
-    ensures lent { result.now ≡ lent_of (reading_at files.now cursor.now) step }
+    requires { PointsInto files.now cursor.now }
+    ensures lent { result.now ≡ lent_of (slot_at files.now cursor.now) step }
     ensures empty { cursor.now.attached ≡ None → result.now ≡ [] }
 {
     let bytes = bytes_at(files, cursor.file);
@@ -156,10 +156,10 @@ pub(super) fn ready_at<'a>(files: &'a [NamedBytes], cursor: &Cursor, step: usize
 
 /// Moves the cursor on by `n` bytes, which are there.
 pub(super) fn skip_at(files: &[NamedBytes], cursor: &mut Cursor, n: usize)
-    requires within { IsWithin files.now cursor.old }
-    requires there { n ≤ length (reading_at files.now cursor.old).left }
-    ensures within { IsWithin files.now cursor.new }
-    ensures after { reading_at files.now cursor.new ≡ after_skip (reading_at files.now cursor.old) n }
+    requires within { PointsInto files.now cursor.old }
+    requires there { n ≤ length (slot_at files.now cursor.old).left }
+    ensures within { PointsInto files.now cursor.new }
+    ensures after { slot_at files.now cursor.new ≡ after_skip (slot_at files.now cursor.old) n }
 {
     prove!(n <= bytes_at(files, cursor.file).len() - cursor.at);
     cursor.at += n;

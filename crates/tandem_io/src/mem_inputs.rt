@@ -145,7 +145,7 @@ impl Inputs for MemInputs {
     ghost use Rattle.std.proofs.Common.{rules};
     ghost use Rattle.tandem_io.specs.Inputs.{content_of, view_of, Attaches};
     ghost use Rattle.tandem_io.specs.Calls.{next_fails, after_call};
-    ghost use Rattle.tandem_io.specs.Store.{log_of, slots_of, taken_by, reading_of, with_reading, after_attach};
+    ghost use Rattle.tandem_io.specs.Store.{log_of, slots_of, taken_by, slot_of, with_slot, after_attach};
     ghost use Rattle.tandem_io.specs.MemInputs.{after_answer, calls_of, with_calls};
 
     ghost names = { λ m. Some m.held.names };
@@ -157,8 +157,8 @@ impl Inputs for MemInputs {
         ensures count { (calls_of slot self.old).faults ≤ (calls_of slot self.new).faults }
         ensures fails { is_err result ≡ next_fails (calls_of slot self.old) }
         ensures found { IfOk result (λ found. found ≡ is_some (content_of self.old.held.names name.now)) }
-        ensures held { self.new.held ≡ (if is_err result then self.old.held else with_reading slot self.old.held
-            (after_attach (reading_of slot self.old.held) (content_of self.old.held.names name.now))) }
+        ensures held { self.new.held ≡ (if is_err result then self.old.held else with_slot slot self.old.held
+            (after_attach (slot_of slot self.old.held) (content_of self.old.held.names name.now))) }
         ensures calls { self.new ≡ with_calls slot (record self.old { held = self.new.held })
             (after_call (calls_of slot self.old) (is_err result)) }
     {

@@ -66,7 +66,7 @@ impl MemSink {
 }
 
 impl Sink for MemSink {
-    ghost use Rattle.tandem_io.specs.MemSink.{step_of, write_fails, after_write};
+    ghost use Rattle.tandem_io.specs.MemSink.{write_step, write_fails, after_write};
 
     ghost written = { λ s. Some s.written };
 
@@ -81,7 +81,7 @@ impl Sink for MemSink {
         ensures cause { HasCause self.old.calls.faults self.new.calls.faults result }
         ensures count { self.old.calls.faults ≤ self.new.calls.faults }
         ensures fails { is_err result ≡ write_fails self.old buf.now }
-        ensures taken { IfOk result (λ n. n ≡ step_of self.old buf.now) }
+        ensures taken { IfOk result (λ n. n ≡ write_step self.old buf.now) }
         ensures after { self.new ≡ after_write self.old buf.now }
     {
         let n = self.step.min(buf.len());

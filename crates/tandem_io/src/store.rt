@@ -23,22 +23,22 @@ impl Model for Store {
 
     ghost Value = { Held };
 
-    ghost use Rattle.tandem_io.specs.Cursor.{reading_at, IsWithin};
+    ghost use Rattle.tandem_io.specs.Cursor.{slot_at, PointsInto};
 
     ghost view = { λ s. record {
       names = s.files.items;
-      image = reading_at s.files.items s.image;
-      stream = reading_at s.files.items s.stream;
+      image = slot_at s.files.items s.image;
+      stream = slot_at s.files.items s.stream;
       step = s.step;
     } };
 
-    ghost invariant = { λ s. (1 ≤ s.step) × IsWithin s.files.items s.image × IsWithin s.files.items s.stream };
+    ghost invariant = { λ s. (1 ≤ s.step) × PointsInto s.files.items s.image × PointsInto s.files.items s.stream };
 }
 
 impl Store {
     ghost use Rattle.std.specs.Prelude.{[]};
     ghost use Rattle.tandem_io.specs.Inputs.{content_of};
-    ghost use Rattle.tandem_io.specs.Store.{nothing_held, with_content, reading_of, with_reading, after_attach};
+    ghost use Rattle.tandem_io.specs.Store.{nothing_held, with_content, slot_of, with_slot, after_attach};
     ghost use Rattle.tandem_io.specs.Store.{after_read, after_miss, taken_by, lent_of, after_skip};
 
     /// No content yet. A read takes at most `step` bytes.
@@ -68,8 +68,8 @@ impl Store {
     /// Attaches the content of that name to the slot, if it is there, and answers whether it is.
     pub(super) fn attach(&mut self, slot: Slot, name: &str) -> bool
         ensures answer { result ≡ is_some (content_of self.old.names name.now) }
-        ensures after { self.new ≡ with_reading slot self.old
-            (after_attach (reading_of slot self.old) (content_of self.old.names name.now)) }
+        ensures after { self.new ≡ with_slot slot self.old
+            (after_attach (slot_of slot self.old) (content_of self.old.names name.now)) }
     {
         match slot {
             Slot::Image => attach_at(&self.files, &mut self.image, name),
@@ -80,11 +80,11 @@ impl Store {
     /// Reads from the slot, as many bytes as it can and at most `step`, and answers how many.
     pub(super) fn read(&mut self, slot: Slot, buf: &mut [u8]) -> usize
         requires { 0 < length buf.old }
-        ensures answer { result ≡ taken_by (reading_of slot self.old) self.old.step (length buf.old) }
-        ensures after { self.new ≡ with_reading slot self.old (after_read (reading_of slot self.old) result) }
-        ensures bytes { take result buf.new ≡ take result (reading_of slot self.old).left }
-        ensures end { result ≡ 0 → (reading_of slot self.old).left ≡ [] }
-        ensures empty { (reading_of slot self.old).attached ≡ None → result ≡ 0 }
+        ensures answer { result ≡ taken_by (slot_of slot self.old) self.old.step (length buf.old) }
+        ensures after { self.new ≡ with_slot slot self.old (after_read (slot_of slot self.old) result) }
+        ensures bytes { take result buf.new ≡ take result (slot_of slot self.old).left }
+        ensures end { result ≡ 0 → (slot_of slot self.old).left ≡ [] }
+        ensures empty { (slot_of slot self.old).attached ≡ None → result ≡ 0 }
     {
         match slot {
             Slot::Image => read_at(&self.files, &mut self.image, self.step, buf),
@@ -110,7 +110,7 @@ impl Store {
 
     /// Notes a read of the slot that failed.
     pub(super) fn miss(&mut self, slot: Slot)
-        ensures { self.new ≡ with_reading slot self.old (after_miss (reading_of slot self.old)) }
+        ensures { self.new ≡ with_slot slot self.old (after_miss (slot_of slot self.old)) }
     {
         match slot {
             Slot::Image => self.image.ended = false,

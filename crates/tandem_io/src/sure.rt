@@ -100,7 +100,7 @@ impl Inputs for SureInputs {
     ghost use Rattle.std.specs.Prelude.{refl};
     ghost use Rattle.std.proofs.Common.{rules};
     ghost use Rattle.tandem_io.specs.Inputs.{content_of};
-    ghost use Rattle.tandem_io.specs.Store.{slots_of, taken_by, reading_of, with_reading, after_attach, after_read};
+    ghost use Rattle.tandem_io.specs.Store.{slots_of, taken_by, slot_of, with_slot, after_attach, after_read};
 
     ghost names = { λ s. Some s.names };
 
@@ -108,8 +108,8 @@ impl Inputs for SureInputs {
 
     fn attach(&mut self, slot: Slot, name: &str) -> Result<bool, Failed>
         ensures found { result ≡ Ok (is_some (content_of self.old.names name.now)) }
-        ensures after { self.new ≡ with_reading slot self.old
-            (after_attach (reading_of slot self.old) (content_of self.old.names name.now)) }
+        ensures after { self.new ≡ with_slot slot self.old
+            (after_attach (slot_of slot self.old) (content_of self.old.names name.now)) }
     {
         Ok(self.store.attach(slot, name))
     }

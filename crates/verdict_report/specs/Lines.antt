@@ -1,18 +1,24 @@
 -- The lines that tell a verdict, as bytes. A line ends with one newline, and one space separates
 -- its parts.
-use Rattle.std.specs.Prelude.{ℕ, List, [], ◌++◌, false, codes, Option, None, Some}
-use Rattle.std.specs.Fmt.{decimal, digits}
+use Rattle.std.specs.Prelude.{ℕ, List, [], ◌++◌, codes, Option, None, Some}
+use Rattle.std.specs.Fmt.{decimal}
 use Rattle.msg_frames.specs.declared.csrs.CsrValue.{CsrValue}
 use Rattle.msg_frames.specs.declared.message.Form.{Form}
 use Rattle.msg_frames.specs.declared.message.Form.TheVariants.{Length, Kind, Reserved, Field}
 use Rattle.msg_frames.specs.declared.message.Head.{Head}
 use Rattle.msg_frames.specs.declared.message.RdValue.{RdValue}
+use Rattle.numerals.specs.Numerals.{hexadecimal}
 use Rattle.tandem_base.specs.Texts.{newline}
+use Rattle.tandem_base.specs.declared.names.OpName.{OpName}
+use Rattle.tandem_base.specs.declared.names.Origin.{Origin}
 use Rattle.verdict_report.specs.Faults.{fault_number, fault_name}
 use Rattle.verdict_report.specs.declared.fault.Fault.{Fault}
-use Rattle.verdict_report.specs.declared.fault.Fault.TheVariants.{BadFrame, Truncated, BadOpen, BadHart}
-use Rattle.verdict_report.specs.declared.fault.Fault.TheVariants.{TimeBack, LatePoke, TagOrder, Pc, Word, Trap}
-use Rattle.verdict_report.specs.declared.fault.Fault.TheVariants.{NextPc, Rd, Csr, Unbuilt}
+use Rattle.verdict_report.specs.declared.fault.Fault.TheVariants.{BadFrame, Truncated, BadOpen, BadHart, TimeBack, LateTag}
+use Rattle.verdict_report.specs.declared.fault.Fault.TheVariants.{BadRange, UnknownStore, StoreData, TornStore, MergeMismatch, LatePoke}
+use Rattle.verdict_report.specs.declared.fault.Fault.TheVariants.{TagOrder, StrayBypass, Pc, Word, Trap, MissingRead}
+use Rattle.verdict_report.specs.declared.fault.Fault.TheVariants.{TornRead, MissingBypass, NextPc, Rd, Csr, AmoData}
+use Rattle.verdict_report.specs.declared.fault.Fault.TheVariants.{ScPair, LoadValue, Order, Atomicity, Unwritten, Unretired}
+use Rattle.verdict_report.specs.declared.fault.Fault.TheVariants.{Unbuilt}
 use Rattle.verdict_report.specs.declared.fault.RdWant.{RdWant}
 use Rattle.verdict_report.specs.declared.fault.RdWant.TheVariants.{Absent, Value, Nonzero, AtLeast}
 use Rattle.verdict_report.specs.declared.verdict.Limit.{Limit}
@@ -20,10 +26,6 @@ use Rattle.verdict_report.specs.declared.verdict.Limit.TheVariants.{Reads, Store
 use Rattle.verdict_report.specs.declared.verdict.Report.{Report}
 use Rattle.verdict_report.specs.declared.verdict.Verdict.{Verdict}
 use Rattle.verdict_report.specs.declared.verdict.Verdict.TheVariants.{Accept, Reject, Undecided}
-
--- `0x`, and the number in base 16 with lower-case digits and no leading zeros
-abbrev pub hexadecimal : ℕ → List ℕ
-hexadecimal n = codes "0x" ++ digits 16 false n
 
 -- how a frame breaks the grammar
 abbrev pub form_text : Form → List ℕ
@@ -58,9 +60,30 @@ abbrev pub csr_text : Option CsrValue → List ℕ
 csr_text None = codes "-"
 csr_text (Some csr) = hexadecimal csr.number ++ codes ":" ++ hexadecimal csr.value
 
+-- a byte, or `-` for none
+abbrev pub byte_text : Option ℕ → List ℕ
+byte_text None = codes "-"
+byte_text (Some byte) = hexadecimal byte
+
 -- the value of the reference model, then the reported one
 abbrev pub differ : List ℕ → List ℕ → List ℕ
 differ want got = codes " want=" ++ want ++ codes " got=" ++ got
+
+-- the address of a byte
+abbrev pub at_text : ℕ → List ℕ
+at_text at = codes " at=" ++ hexadecimal at
+
+-- a byte that differs, with its address
+abbrev pub byte_differs : ℕ → Option ℕ → Option ℕ → List ℕ
+byte_differs at want got = at_text at ++ differ (byte_text want) (byte_text got)
+
+-- an instruction: `hart:tag`
+abbrev pub origin_text : Origin → List ℕ
+origin_text origin = decimal origin.hart ++ codes ":" ++ decimal origin.tag
+
+-- a memory operation: `hart:tag.part`
+abbrev pub operation_text : OpName → List ℕ
+operation_text name = decimal name.hart ++ codes ":" ++ decimal name.tag ++ codes "." ++ decimal name.part
 
 -- what a line tells of a fault beside its number and name
 abbrev pub detail_of : Fault → List ℕ
@@ -69,14 +92,32 @@ detail_of (Truncated have) = codes " have=" ++ decimal have
 detail_of BadOpen = []
 detail_of BadHart = []
 detail_of (TimeBack last) = codes " last=" ++ decimal last
+detail_of (LateTag last) = codes " last=" ++ decimal last
+detail_of BadRange = []
+detail_of UnknownStore = []
+detail_of (StoreData at want got) = byte_differs at want got
+detail_of TornStore = []
+detail_of (MergeMismatch at want got) = byte_differs at want got
 detail_of LatePoke = []
 detail_of (TagOrder last) = codes " last=" ++ decimal last
+detail_of (StrayBypass bypass) = codes " bypass=" ++ decimal bypass
 detail_of (Pc want got) = differ (hexadecimal want) (hexadecimal got)
 detail_of (Word want got) = differ (hexadecimal want) (hexadecimal got)
 detail_of (Trap want got) = differ (cause_text want) (cause_text got)
+detail_of (MissingRead at) = at_text at
+detail_of (TornRead at) = at_text at
+detail_of MissingBypass = []
 detail_of (NextPc want got) = differ (hexadecimal want) (hexadecimal got)
 detail_of (Rd want got) = differ (rd_want_text want) (rd_text got)
 detail_of (Csr index want got) = codes " index=" ++ decimal index ++ differ (csr_text want) (csr_text got)
+detail_of (AmoData at want got) = byte_differs at want got
+detail_of ScPair = []
+detail_of (LoadValue at want got) = byte_differs at want got
+detail_of (Order rule first second) =
+    codes " rule=" ++ decimal rule ++ codes " first=" ++ operation_text first ++ codes " second=" ++ operation_text second
+detail_of (Atomicity at store) = at_text at ++ codes " store=" ++ origin_text store
+detail_of (Unwritten store at) = codes " store=" ++ origin_text store ++ at_text at
+detail_of (Unretired bypass) = codes " bypass=" ++ origin_text bypass
 detail_of Unbuilt = []
 
 -- the number and the name of a fault

@@ -3,7 +3,6 @@
 
 mod detail;
 mod fault;
-mod numbers;
 mod printing;
 #[cfg(test)]
 mod tests;
@@ -11,7 +10,6 @@ mod text;
 mod verdict;
 
 pub use fault::{Fault, RdWant};
-pub use numbers::{put_decimal, put_hexadecimal};
 pub use printing::print;
 pub use text::line;
 pub use verdict::{Limit, Report, Verdict};

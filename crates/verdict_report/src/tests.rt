@@ -2,6 +2,7 @@ use super::{Fault, Limit, RdWant, Report, Verdict, line, print};
 use msg_frames::{CsrValue, Form, Head, RdValue};
 use std::process::Abort;
 use std::test::Fail;
+use tandem_base::{OpName, Origin};
 use tandem_io::{MemSink, WriteFailed};
 
 // The verdict's line is this text and a newline.
@@ -264,6 +265,116 @@ fn tells_faults_of_the_csrs(rt: HostRuntime) {
             got: csr(0x343, 0xdead_beef),
         },
         b"25 Csr hart=1 tag=7 index=3 want=- got=0x343:0xdeadbeef",
+    );
+}
+
+#[test]
+fn tells_faults_of_reports(rt: HostRuntime) {
+    details(
+        &rt,
+        Fault::LateTag { last: 7 },
+        b"10 LateTag hart=1 tag=7 last=7",
+    );
+    details(&rt, Fault::BadRange, b"11 BadRange hart=1 tag=7");
+    details(&rt, Fault::UnknownStore, b"12 UnknownStore hart=1 tag=7");
+    details(
+        &rt,
+        Fault::StoreData {
+            at: 0x8000_1000,
+            want: Some(1),
+            got: Some(0xff),
+        },
+        b"13 StoreData hart=1 tag=7 at=0x80001000 want=0x1 got=0xff",
+    );
+    details(&rt, Fault::TornStore, b"14 TornStore hart=1 tag=7");
+    details(
+        &rt,
+        Fault::MergeMismatch {
+            at: 0x8000_1003,
+            want: Some(0),
+            got: None,
+        },
+        b"15 MergeMismatch hart=1 tag=7 at=0x80001003 want=0x0 got=-",
+    );
+    details(
+        &rt,
+        Fault::StrayBypass { bypass: 3 },
+        b"18 StrayBypass hart=1 tag=7 bypass=3",
+    );
+    details(
+        &rt,
+        Fault::MissingRead { at: 0x8000_1044 },
+        b"30 MissingRead hart=1 tag=7 at=0x80001044",
+    );
+    details(
+        &rt,
+        Fault::TornRead { at: 0x8000_1044 },
+        b"31 TornRead hart=1 tag=7 at=0x80001044",
+    );
+    details(&rt, Fault::MissingBypass, b"32 MissingBypass hart=1 tag=7");
+    details(
+        &rt,
+        Fault::AmoData {
+            at: 0x8000_1000,
+            want: Some(2),
+            got: Some(1),
+        },
+        b"34 AmoData hart=1 tag=7 at=0x80001000 want=0x2 got=0x1",
+    );
+    details(&rt, Fault::ScPair, b"35 ScPair hart=1 tag=7");
+}
+
+#[test]
+fn tells_faults_of_memory_and_of_the_end(rt: HostRuntime) {
+    details(
+        &rt,
+        Fault::LoadValue {
+            at: 0x8000_1000,
+            want: Some(1),
+            got: Some(0),
+        },
+        b"33 LoadValue hart=1 tag=7 at=0x80001000 want=0x1 got=0x0",
+    );
+    let most = u64::MAX;
+    details(
+        &rt,
+        Fault::Order {
+            rule: 13,
+            first: OpName {
+                hart: 0,
+                tag: 1,
+                part: 4,
+            },
+            second: OpName {
+                hart: 15,
+                tag: most,
+                part: 0,
+            },
+        },
+        b"36 Order hart=1 tag=7 rule=13 first=0:1.4 second=15:18446744073709551615.0",
+    );
+    details(
+        &rt,
+        Fault::Atomicity {
+            at: 0x8000_1000,
+            store: Origin { hart: 1, tag: 1 },
+        },
+        b"37 Atomicity hart=1 tag=7 at=0x80001000 store=1:1",
+    );
+    details(
+        &rt,
+        Fault::Unwritten {
+            store: Origin { hart: 0, tag: most },
+            at: 0x8000_1000,
+        },
+        b"40 Unwritten hart=1 tag=7 store=0:18446744073709551615 at=0x80001000",
+    );
+    details(
+        &rt,
+        Fault::Unretired {
+            bypass: Origin { hart: 0, tag: most },
+        },
+        b"41 Unretired hart=1 tag=7 bypass=0:18446744073709551615",
     );
 }
 

@@ -6,9 +6,9 @@ ghost use Rattle.tandem_base.specs.Puts.{Puts};
 
 use super::detail::put_detail;
 use super::fault::Fault;
-use super::numbers::put_decimal;
 use super::verdict::{Limit, Report, Verdict};
 use msg_frames::Head;
+use numerals::put_decimal;
 use tandem_base::put;
 
 /// Puts the verdict's line, with its newline, at the front of `out` and answers its length. Every

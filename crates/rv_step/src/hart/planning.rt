@@ -7,7 +7,7 @@ ghost use Rattle.rv_decode.specs.Listing.{IsInsn};
 ghost use Rattle.rv_step.specs.Plans.{accesses, address_of, doing_of, doing_seen, doing_word, illegal, is_access};
 ghost use Rattle.rv_step.specs.Plans.{jumps, plan_of};
 ghost use Rattle.rv_step.specs.Plans.{plan_seen};
-ghost use Rattle.rv_step.specs.Promises.{HasCsr, IsAlignedAtomic, IsOfKind, IsTarget, extent_of, insn_of};
+ghost use Rattle.rv_step.specs.Promises.{HasCsr, IsAlignedAtomic, IsOfKind, IsTarget, planned_extent, planned_insn};
 ghost use Rattle.rv_step.specs.Steps.{trap};
 
 use super::Hart;
@@ -27,12 +27,12 @@ impl Hart {
     /// is there and may be used so, and a jump that is taken goes to a multiple of 4.
     pub fn plan(&self, image: &Image, config: &Config) -> Plan
         ensures value { plan_seen result ≡ plan_of self.now (loaded_of image.now) config.now }
-        ensures fits { IfSome (insn_of (doing_seen result.what)) IsInsn }
+        ensures fits { IfSome (planned_insn (doing_seen result.what)) IsInsn }
         ensures kind { IsOfKind (doing_seen result.what) }
-        ensures held { IfSome (extent_of result.what) (Holds (loaded_of image.now)) }
+        ensures held { IfSome (planned_extent result.what) (Holds (loaded_of image.now)) }
         ensures aligned { IsAlignedAtomic (doing_seen result.what) }
-        ensures csr { IfSome (insn_of (doing_seen result.what)) HasCsr }
-        ensures target { IfSome (insn_of (doing_seen result.what)) (IsTarget self.now) }
+        ensures csr { IfSome (planned_insn (doing_seen result.what)) HasCsr }
+        ensures target { IfSome (planned_insn (doing_seen result.what)) (IsTarget self.now) }
     {
         self.fetched(image, config)
     }

@@ -50,7 +50,7 @@ fn is_outside(w: &Op, r: &Op) -> bool
     let mut found = false;
     for j in 0..w.extent.len {
         let x = w.extent.addr + u64::from(j);
-        found = found || w.covers(x) && !r.covers(x);
+        found = found || w.has_byte(x) && !r.has_byte(x);
     }
     found
 }

@@ -1,6 +1,7 @@
 //! Which instructions and annotations the rules speak of.
 
 ghost use Rattle.std.specs.Prelude.{◌≡◌};
+ghost use Rattle.rv_decode.specs.Kinds;
 ghost use Rattle.rvwmo_model.specs.Annotations;
 ghost use Rattle.rvwmo_model.specs.InsnKinds;
 ghost use Rattle.rvwmo_model.specs.ProgramOrder;
@@ -11,7 +12,7 @@ use rv_decode::Insn;
 
 /// Whether there is an instruction, an AMO or SC.
 pub fn is_amo_or_sc(insn: Option<Retired>) -> bool
-    ensures { result ≡ ProgramOrder.is_one InsnKinds.is_amo_or_sc insn }
+    ensures { result ≡ ProgramOrder.is_one Kinds.is_amo_or_sc insn }
 {
     match insn {
         None => false,
@@ -71,7 +72,7 @@ pub fn has_rcsc(o: &Op) -> bool
 
 /// Whether it is an LR.
 pub fn is_lr(insn: &Insn) -> bool
-    ensures { result ≡ InsnKinds.is_lr insn.now }
+    ensures { result ≡ Kinds.is_lr insn.now }
 {
     match *insn {
         Insn::Lr { .. } => true,
@@ -81,7 +82,7 @@ pub fn is_lr(insn: &Insn) -> bool
 
 /// Whether it is an SC.
 pub fn is_sc(insn: &Insn) -> bool
-    ensures { result ≡ InsnKinds.is_sc insn.now }
+    ensures { result ≡ Kinds.is_sc insn.now }
 {
     match *insn {
         Insn::Sc { .. } => true,
@@ -91,7 +92,7 @@ pub fn is_sc(insn: &Insn) -> bool
 
 /// Whether there is an instruction, an LR.
 pub fn found_lr(insn: Option<Retired>) -> bool
-    ensures { result ≡ ProgramOrder.is_one InsnKinds.is_lr insn }
+    ensures { result ≡ ProgramOrder.is_one Kinds.is_lr insn }
 {
     match insn {
         None => false,
@@ -101,7 +102,7 @@ pub fn found_lr(insn: Option<Retired>) -> bool
 
 /// Whether there is an instruction, an SC.
 pub fn found_sc(insn: Option<Retired>) -> bool
-    ensures { result ≡ ProgramOrder.is_one InsnKinds.is_sc insn }
+    ensures { result ≡ ProgramOrder.is_one Kinds.is_sc insn }
 {
     match insn {
         None => false,

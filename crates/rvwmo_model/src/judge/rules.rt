@@ -31,7 +31,7 @@ fn overlap(a: &Op, b: &Op) -> bool
     let mut found = false;
     for j in 0..a.extent.len {
         let x = a.extent.addr + u64::from(j);
-        found = found || a.covers(x) && b.writes(x);
+        found = found || a.has_byte(x) && b.writes(x);
     }
     found
 }
@@ -219,9 +219,9 @@ fn reads_dependent(alloc: Global, t: &Trace, a: &Op, b: &Op) -> Result<bool, All
     Ok(found)
 }
 
-fn holds(alloc: Global, rule: Rule, t: &Trace, a: &Op, b: &Op) -> Result<bool, AllocError>
+fn orders(alloc: Global, rule: Rule, t: &Trace, a: &Op, b: &Op) -> Result<bool, AllocError>
     requires { a.now.name.tag < b.now.name.tag }
-    ensures { IfOk result (λ found. found ≡ Tests.holds rule t.now a.now b.now) }
+    ensures { IfOk result (λ found. found ≡ Tests.orders rule t.now a.now b.now) }
 {
     match rule {
         Rule::R1 => Ok(overlap(a, b)),
@@ -245,7 +245,7 @@ pub fn is_broken(alloc: Global, rule: Rule, t: &Trace, a: &Op, b: &Op) -> Result
     ensures { IfOk result (λ found. found ≡ Tests.is_broken rule t.now a.now b.now) }
 {
     if b.name.hart == a.name.hart && a.name.tag < b.name.tag && b.precedes(a) {
-        holds(alloc, rule, t, a, b)
+        orders(alloc, rule, t, a, b)
     } else {
         Ok(false)
     }

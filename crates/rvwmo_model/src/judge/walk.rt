@@ -1,6 +1,7 @@
 //! A walk through the instructions of a hart that finds what depends on one of them.
 
 ghost use Rattle.std.specs.Prelude.{◌≡◌, ◌++◌, List, not, true, IfOk};
+ghost use Rattle.std.specs.Bool.{Decides};
 ghost use Rattle.std.specs.List.{filter, list_any};
 ghost use Rattle.rv_decode.specs.Registers;
 ghost use Rattle.rv_decode.specs.declared.registers.Register.{Register};
@@ -45,7 +46,7 @@ fn uses(by: Use, insn: &Insn, r: Register) -> bool
 
 /// Whether an instruction has a register in that use.
 fn has_use(by: Use, insn: &Insn) -> bool
-    ensures { (r : Register) → Walk.use_of by insn.now r ≡ true → result ≡ true }
+    ensures { Decides result ((r : Register) × (Walk.use_of by insn.now r ≡ true)) }
 {
     match by {
         Use::Address => address_source(insn).is_some(),
@@ -138,16 +139,16 @@ fn is_found(search: Search, marks: &[Register], w: &Retired) -> bool
     search.from <= w.tag && w.tag <= search.to && uses_some(search.by, &w.insn, marks)
 }
 
-/// Whether an instruction of the hart is asked about, and has a register in that use.
+/// Whether an instruction is asked about: it has a tag that is, and a register in that use.
 fn asks(search: Search, w: &Retired) -> bool
-    ensures { (marks : List Register) → Walk.is_found search marks w.now ≡ true → result ≡ true }
+    ensures { Decides result (Walk.Asks search w.now) }
 {
     search.from <= w.tag && w.tag <= search.to && has_use(search.by, &w.insn)
 }
 
-/// Whether some instruction may be found at all. It is a quick look before the walk.
+/// Whether some instruction of the hart is asked about. It is a quick look before the walk.
 fn asks_some(search: Search, insns: &[Retired]) -> bool
-    ensures { Walk.finds search insns.now ≡ true → result ≡ true }
+    ensures { Decides result (Walk.AsksSome search insns.now) }
 {
     for w in insns {
         if w.hart == search.hart && asks(search, w) {

@@ -1,5 +1,4 @@
 use Rattle.std.proofs.Common.{◌<◌, arith, take}
-use Rattle.msg_frames.proofs.Taking.{whole_arrived}
 use Rattle.msg_frames.proofs.CutLaws.{front_whole}
 use Rattle.msg_frames.proofs.source.next_message_into.Goals as goal
 
@@ -13,5 +12,5 @@ returns-clause-taken g c =
     let read = c.read_frame-answer in (
       take size ready,
       rw c.ready-ready.ensures.lent (record { consumed = c.skip.ensures.bytes; logged = c.skip.ensures.logged }),
-      whole_arrived read.result c.args.message.now read.new.message (take size ready) _ front.1 read.ensures,
+      read.ensures.next _,
     )

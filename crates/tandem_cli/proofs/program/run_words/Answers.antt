@@ -19,3 +19,7 @@ pub returns-in-Err-clause-words : goal.returns-in-Err-clause-words
 returns-in-Err-clause-words g c =
     words_refused (asked (map string_bytes (drop 1 (into_iter_items c.args.args)))) (g.I.Inputs.names c.args.ins.now)
     (g.I.Inputs.slots c.args.ins.now) (g.K.Sink.written c.args.out.now) (g.K.Sink.faults c.args.out.now)
+
+pub returns-in-Ok-clause-usage : goal.returns-in-Ok-clause-usage
+returns-in-Ok-clause-usage g c =
+    rw (← (c.in-Ok.ensures {u = tt}), ← c.deref.ensures.value) c.run_check.ensures.untouched

@@ -1,19 +1,20 @@
 use Rattle.std.proofs.Common.{◌≡◌, sym, ap, ◌∙◌, ◌++◌, Some, None, arith}
-use Rattle.std.specs.Prelude.{IfNone}
-use Rattle.elf_image.specs.Images.{ImageOf}
 use Rattle.elf_image.specs.Images.{loaded_of}
 use Rattle.tandem_core.specs.Runs.{frames_of}
 use Rattle.tandem_core.specs.Judgements.{verdict_at}
 use Rattle.verdict_report.specs.declared.verdict.Verdict.TheVariants as verdict
 use Rattle.tandem_core.proofs.StandsLaws.{counted, stands_here}
-use Rattle.tandem_core.proofs.Progress.{begins, takes, goes_on, given_by, malformed, ends_short, lacks_part}
+use Rattle.tandem_core.proofs.Progress.{takes, goes_on, given_by, malformed, ends_short, lacks_part, halts_at}
 use Rattle.tandem_core.proofs.judging.judge_in.Goals as goal
 
 pub returns-in-Err-clause-judged : goal.returns-in-Err-clause-judged
 returns-in-Err-clause-judged g c =
     let p = c.loop-core.invariant.progress in
-    let next = c.in-Message.ensures {u = tt} in
-    (frames_of p.before ++ next.taken.0, takes p.before next.taken.0 p.took next.taken.1, tt)
+    let next = c.in-Message.ensures {u = tt} in (
+      frames_of p.before ++ next.taken.0,
+      takes p.before next.taken.0 p.took next.taken.1,
+      halts_at next.taken.0 c.next_message_into.new.message p next.taken.2.2,
+    )
 
 pub returns-in-Some-clause-judged : goal.returns-in-Some-clause-judged
 returns-in-Some-clause-judged g c =
@@ -76,5 +77,5 @@ returns-in-Failed-clause-judged g c =
     let next = c.in-Failed.ensures {u = tt} in (
       frames_of p.before ++ next.taken.0,
       takes p.before next.taken.0 p.took next.taken.1,
-      lacks_part next.taken.0 p next.taken.2.0,
+      lacks_part next.taken.0 p next.taken.2,
     )

@@ -1,4 +1,4 @@
-use Rattle.std.proofs.Common.{◌≡◌, ℕ, ◌+◌, ◌-◌, ◌≤◌}
+use Rattle.std.proofs.Common.{◌≡◌, ◌+◌, ◌-◌, ◌≤◌}
 use Rattle.elf_image.specs.Images.{loaded_of}
 use Rattle.tandem_core.proofs.Progress.{Progress}
 use Rattle.tandem_core.proofs.judging.judge_in.Given as goal

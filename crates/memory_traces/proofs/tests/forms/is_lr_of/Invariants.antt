@@ -1,5 +1,5 @@
 use Rattle.std.proofs.Common.{◌≡◌, drop}
-use Rattle.rvwmo_model.specs.InsnKinds.{is_lr}
+use Rattle.rv_decode.specs.Kinds.{is_lr}
 use Rattle.rvwmo_model.specs.ProgramOrder.{insn_at, is_one}
 use Rattle.memory_traces.proofs.tests.forms.is_lr_of.Given as goal
 

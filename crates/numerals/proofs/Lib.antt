@@ -1,0 +1,4 @@
+mod DigitsLaws
+mod Value
+pub mod SpellingLaws
+pub mod TextLaws
