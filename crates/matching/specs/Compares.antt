@@ -31,13 +31,6 @@ trap_fault_of want got = if option_eq nat_eq want got then None else Some (fault
 abbrev pub next_fault_of : ℕ → ℕ → Option Fault
 next_fault_of want got = if want == got then None else Some (fault.NextPc want got)
 
--- What is wanted of the register that the model writes: that none is written; the model's register and value; or, where
--- the instruction reads a counter, that register and at least the last value that was reported of the counter.
-abbrev pub rd_want_of : Option ℕ → Option RdValue → RdWant
-rd_want_of last None = want.Absent
-rd_want_of None (Some rd) = want.Value rd
-rd_want_of (Some last) (Some rd) = want.AtLeast (record { number = rd.number; value = last })
-
 -- what is reported of a register is what is wanted of it
 abbrev pub meets : RdWant → Option RdValue → Bool
 meets want.Absent None = true

@@ -11,9 +11,14 @@ first_below p (suc n) = option_or (first_below p n) (if p n then Some n else Non
 -- the latest of a list that passes: the list has the newest first
 abbrev pub latest : {A : Type 0} → (A → Bool) → List A → Option A
 latest p [] = None
-latest p (a ∷ as) = if p a then Some a else latest p as
+latest p (a ∷ rest) = if p a then Some a else latest p rest
 
 -- the earliest of a list that passes: the list has the newest first
 abbrev pub earliest : {A : Type 0} → (A → Bool) → List A → Option A
 earliest p [] = None
-earliest p (a ∷ as) = option_or (earliest p as) (if p a then Some a else None)
+earliest p (a ∷ rest) = option_or (earliest p rest) (if p a then Some a else None)
+
+-- one more in front, if there is one
+abbrev pub with_new : {A : Type 0} → Option A → List A → List A
+with_new None xs = xs
+with_new (Some a) xs = a ∷ xs

@@ -9,24 +9,24 @@ use Rattle.msg_frames.specs.declared.message.Message.{Message}
 use Rattle.elf_image.specs.Images.{Loaded}
 use Rattle.rv_step.specs.Steps.{Doing, trap, plain, counter, load, store, lr, sc, amo}
 use Rattle.matching.specs.declared.stores.Stored.{Stored}
-use Rattle.matching.specs.Searches.{latest}
+use Rattle.matching.specs.Searches.{latest, with_new}
 use Rattle.matching.specs.Runs.{doing_at, effect_at}
 
--- the bytes that a plain store stores, put in front with its tag
-abbrev pub with_piece : ℕ → Option Piece → List Stored → List Stored
-with_piece t None old = old
-with_piece t (Some piece) old = record { tag = t; piece = piece } ∷ old
+-- the store of these bytes under a tag, if there are any
+abbrev pub store_of : ℕ → Option Piece → Option Stored
+store_of t None = None
+store_of t (Some piece) = Some (record { tag = t; piece = piece })
 
--- the plain stores after a Retire: one more where it is of a plain store
-abbrev pub stores_after : Doing → ℕ → Option Piece → List Stored → List Stored
-stores_after (trap cause value) t piece old = old
-stores_after (plain i) t piece old = old
-stores_after (counter i) t piece old = old
-stores_after (load i addr len) t piece old = old
-stores_after (store i addr len) t piece old = with_piece t piece old
-stores_after (lr i addr len) t piece old = old
-stores_after (sc i addr len) t piece old = old
-stores_after (amo i addr len) t piece old = old
+-- the plain store that an instruction is, if it is one
+abbrev pub new_store : Doing → ℕ → Option Piece → Option Stored
+new_store (trap cause value) t piece = None
+new_store (plain i) t piece = None
+new_store (counter i) t piece = None
+new_store (load i addr len) t piece = None
+new_store (store i addr len) t piece = store_of t piece
+new_store (lr i addr len) t piece = None
+new_store (sc i addr len) t piece = None
+new_store (amo i addr len) t piece = None
 
 -- the plain stores of hart h, after one more message
 abbrev pub stores_in : Loaded → List Message → List Stored → Head → Body → ℕ → List Stored
@@ -38,7 +38,7 @@ stores_in image before old head (body.Write write) h = old
 stores_in image before old head (body.Bypass piece) h = old
 stores_in image before old head (body.Retire retire) h =
     if head.hart == h
-    then stores_after (doing_at image before head.hart) head.tag (effect_at image before head retire).store old
+    then with_new (new_store (doing_at image before head.hart) head.tag (effect_at image before head retire).store) old
     else old
 stores_in image before old head body.Squash h = old
 stores_in image before old head body.End h = old

@@ -3,7 +3,7 @@
 ghost use Rattle.std.specs.Prelude.{◌≡◌};
 ghost use Rattle.tandem_base.specs.FirstFault.{passed};
 ghost use Rattle.matching.specs.Compares.{tag_fault_of, pc_fault_of, word_fault_of, trap_fault_of};
-ghost use Rattle.matching.specs.Compares.{next_fault_of, rd_want_of, meets, rd_fault_of, csr_entry_fault_of};
+ghost use Rattle.matching.specs.Compares.{next_fault_of, meets, rd_fault_of, csr_entry_fault_of};
 ghost use Rattle.matching.specs.Compares.{csr_fault_of};
 
 use msg_frames::{CsrList, CsrValue, RdValue};
@@ -63,48 +63,27 @@ pub fn check_next(want: u64, got: u64) -> Result<(), Fault>
     }
 }
 
-/// What is wanted of the register that the model writes, if it writes one. `last` is the last
-/// reported value of the counter that the instruction reads, None where it reads none.
-fn rd_want(last: Option<u64>, rd: Option<RdValue>) -> RdWant
-    ensures { result ≡ rd_want_of last rd }
+/// Whether what is reported of a register is what is wanted of it.
+fn is_met(want: &RdWant, got: &Option<RdValue>) -> bool
+    ensures { result ≡ meets want.now got.now }
 {
-    match (last, rd) {
-        (_, None) => RdWant::Absent,
-        (None, Some(rd)) => RdWant::Value(rd),
-        (Some(value), Some(rd)) => RdWant::AtLeast(RdValue {
-            number: rd.number,
-            value,
-        }),
-    }
-}
-
-/// Whether what is reported of a register is what is wanted of it. `last` is the last reported value
-/// of the counter that the instruction reads, None where it reads none.
-fn is_met(last: Option<u64>, rd: &Option<RdValue>, got: &Option<RdValue>) -> bool
-    ensures { result ≡ meets (rd_want_of last rd.now) got.now }
-{
-    match (rd, got) {
-        (None, None) => true,
-        (Some(rd), Some(got)) => match last {
-            None => *rd == *got,
-            Some(value) => rd.number == got.number && value <= got.value,
-        },
+    match (want, got) {
+        (RdWant::Absent, None) => true,
+        (RdWant::Value(rd), Some(got)) => rd.number == got.number && rd.value == got.value,
+        (RdWant::Nonzero(number), Some(got)) => *number == got.number && got.value != 0,
+        (RdWant::AtLeast(rd), Some(got)) => rd.number == got.number && rd.value <= got.value,
         _ => false,
     }
 }
 
-/// The register that was written, and its value. `last` is the last reported value of the counter
-/// that the instruction reads, None where it reads none.
-pub fn check_rd(last: Option<u64>, rd: &Option<RdValue>, got: &Option<RdValue>) -> Result<(), Fault>
-    ensures { result ≡ passed (rd_fault_of (rd_want_of last rd.now) got.now) }
+/// The register that was written, and its value.
+pub fn check_rd(want: RdWant, got: &Option<RdValue>) -> Result<(), Fault>
+    ensures { result ≡ passed (rd_fault_of want got.now) }
 {
-    if is_met(last, rd, got) {
+    if is_met(&want, got) {
         Ok(())
     } else {
-        Err(Fault::Rd {
-            want: rd_want(last, *rd),
-            got: *got,
-        })
+        Err(Fault::Rd { want, got: *got })
     }
 }
 
