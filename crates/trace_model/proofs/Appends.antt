@@ -28,6 +28,7 @@ use Rattle.trace_model.proofs.Fresh.{IsFreshAt, AreFresh}
 use Rattle.trace_model.specs.Entries.{Entry, Stores, Places, built}
 use Rattle.elf_image.specs.Images.{Loaded}
 use Rattle.trace_model.specs.Traces.{entries, places, early_op, granule_of, trace_of}
+use Rattle.trace_model.specs.Parts.{IsPartFor, ArePartsFor}
 use Rattle.trace_model.proofs.AreEntries.{AreEntries}
 use Rattle.trace_model.proofs.Performed.{Moves, IsBelow, IsStep, steps, members_self}
 use Rattle.trace_model.proofs.Waits.{waits, held_one, held_line}
@@ -36,8 +37,9 @@ use Rattle.trace_model.proofs.Writes.{placed_in, numbered, IsStored, whole, numb
 pub same_self : (t : Trace) → AreRising t.insns → AllPairs (λ a b. a ≢ b) t.ops → Same t t
 same_self t rising once = record { keeps = record { insns = λ h k. refl; rising = rising; once = once; granule = refl }; ops = members_self t.ops; early = members_self t.early }
 
-one_part : (h : ℕ) (t t' : Trace) (p : Place) → IsStep t t' h p → (parts : List Op) × Performs h t parts t'
-one_part h t t' p s = (s.new ∷ [], more_parts [] t t' s.old s.new s.rest no_parts s.hart s.performs)
+one_part : (h k : ℕ) (t t' : Trace) (p : Place) (piece : Piece) → IsStep t t' h k p (has piece) → (o : Op) × Performs h t (o ∷ []) t' × IsPartFor h k p piece o
+one_part h k t t' p piece s =
+    (s.new, more_parts [] t t' s.old s.new s.rest no_parts s.hart s.performs, record { hart = s.hart; tag = s.tag; place = s.place; bytes = s.bytes })
 
 module _ (image : Loaded) (before : List Message) (head : Head) where
   abbrev pub old : Trace
@@ -117,11 +119,11 @@ module _ (image : Loaded) (before : List Message) (head : Head) where
 
     pub bypass_grows : (e : Entry) (a : Access) → AreEntries (entries image before) → In e (entries image before) → e.memory ≡ Stores a → IsFreshAt before head (body.Bypass piece) → a.hart ≡ head.hart → a.tag ≡ head.tag
         → ((x : ℕ) → has piece x ≡ true → (a.extent.addr ≤ x) × (x < a.extent.addr + a.extent.len)) → (x : ℕ) × (has piece x ≡ true)
-        → IsBelow old here → (parts : List Op) × Performs head.hart old parts (new (body.Bypass piece))
+        → IsBelow old here → (o : Op) × Performs head.hart old (o ∷ []) (new (body.Bypass piece)) × IsPartFor head.hart head.tag here piece o
     bypass_grows e a good there stores fits hart tag inside some below =
         let m = bypass_moves a fits hart tag inside some in
-        let s = steps (entries image before) (map early_op (early before)) (granule_of before) (places before) after a here (has piece) e good there stores m below head.hart hart in
-        one_part head.hart old (new (body.Bypass piece)) here (subst (λ (l : List Report). IsStep old (built (entries image before) after (map early_op l) (granule_of before)) head.hart here) (sym still_early) s)
+        let s = steps (entries image before) (map early_op (early before)) (granule_of before) (places before) after a here (has piece) e good there stores m below head.hart head.tag hart tag in
+        one_part head.hart head.tag old (new (body.Bypass piece)) here piece (subst (λ (l : List Report). IsStep old (built (entries image before) after (map early_op l) (granule_of before)) head.hart head.tag here (has piece)) (sym still_early) s)
 
   abbrev drained_at : ℕ → Place
   drained_at j = record { time = head.time; message = number_after before; insert = j }
@@ -167,10 +169,10 @@ module _ (image : Loaded) (before : List Message) (head : Head) where
   with_places g = built (entries image before) g (map early_op (early before)) (granule_of before)
 
   pub write_grows : (write : LineWrite) → AreFresh before → AreEntries (entries image before) → ((e : Held) → In e (waiting before head.hart write.line) → IsStored (entries image before) head.hart e)
-      → ((j : ℕ) → IsBelow old (record { time = head.time; message = number_after before; insert = j })) → (parts : List Op) × Performs head.hart old parts (new (body.Write write))
+      → ((j : ℕ) → IsBelow old (record { time = head.time; message = number_after before; insert = j })) → (parts : List Op) × Performs head.hart old parts (new (body.Write write)) × ArePartsFor head.hart head.time (number_after before) (waiting before head.hart write.line) parts
   write_grows write clean good stored below =
       let from : held_places write [] ≡ places before = places_ext _ (places before) none_placed in
       let to : held_places write (waiting before head.hart write.line) ≡ places (record { head = head; body = body.Write write } ∷ before) = places_ext _ _ (write_places write clean) in
       let w = whole before clean (entries image before) (map early_op (early before)) (granule_of before) head.hart write.line head.time good stored
       (subst (λ (g : Places). (j : ℕ) → IsBelow (with_places g) (record { time = head.time; message = number_after before; insert = j })) (sym from) below) (falling before head.hart write.line) in
-      subst (λ (g : Places). (parts : List Op) × Performs head.hart old parts (with_places g)) to (subst (λ (g : Places). (parts : List Op) × Performs head.hart (with_places g) parts (with_places (held_places write (waiting before head.hart write.line)))) from w)
+      subst (λ (g : Places). (parts : List Op) × Performs head.hart old parts (with_places g) × ArePartsFor head.hart head.time (number_after before) (waiting before head.hart write.line) parts) to (subst (λ (g : Places). (parts : List Op) × Performs head.hart (with_places g) parts (with_places (held_places write (waiting before head.hart write.line))) × ArePartsFor head.hart head.time (number_after before) (waiting before head.hart write.line) parts) from w)

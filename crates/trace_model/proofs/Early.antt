@@ -17,7 +17,7 @@ use Rattle.rvwmo_model.specs.declared.operations.Ann.TheVariants as ann
 use Rattle.rvwmo_model.specs.declared.traces.Trace.{Trace}
 use Rattle.trace_model.proofs.Lists.{In, listed, contained}
 use Rattle.rvwmo_model.specs.Order.{put_at}
-use Rattle.rvwmo_model.specs.InsnKinds.{is_sc, is_amo_or_sc}
+use Rattle.rv_decode.specs.Kinds.{is_sc, is_amo_or_sc}
 use Rattle.rvwmo_model.specs.Atomicity.{IsPair, IsWithin}
 use Rattle.rvwmo_model.specs.InForm.{AreRising}
 use Rattle.trace_model.proofs.Lists.{in_filter, from_filter, in_map, from_map}

@@ -4,9 +4,9 @@ use Rattle.std.specs.List.{flat_map}
 use Rattle.tandem_base.specs.declared.names.Place.{Place}
 use Rattle.rvwmo_model.specs.declared.operations.Op.{Op}
 use Rattle.trace_model.proofs.Lists.{In}
-use Rattle.rvwmo_model.specs.Order.{covers, put_at}
+use Rattle.rvwmo_model.specs.Order.{has_byte, put_at}
 use Rattle.trace_model.proofs.Lists.{in_flat, from_flat}
-use Rattle.growth_laws.specs.Kinds.{InExtent}
+use Rattle.trace_model.proofs.Groups.{InExtent}
 use Rattle.trace_model.specs.Groups.{Access, same_place, part_at, parts_of}
 use Rattle.trace_model.specs.Entries.{MemoryUse, Fixed, Stores, Entry, Places, keys_of, memory_ops, entry_ops}
 use Rattle.trace_model.proofs.Groups.{same_is, same_self, part_in, part_from, covers_from, covers_parts, put_is}
@@ -33,11 +33,11 @@ module _ (g : Places) (a : Access) (q : Option Place) (x : ℕ) where
   pub key_back : a.extent.addr ≤ x → keys_of g a (x - a.extent.addr) ≡ g a.hart a.tag x
   key_back l = ap (g a.hart a.tag) (let z : a.extent.addr + (x - a.extent.addr) ≡ x = omega (arith, l) in z)
 
-  pub covers_at : InExtent (part_at a (keys_of g a) q) x → g a.hart a.tag x ≡ q → covers x (part_at a (keys_of g a) q) ≡ true
+  pub covers_at : InExtent (part_at a (keys_of g a) q) x → g a.hart a.tag x ≡ q → has_byte x (part_at a (keys_of g a) q) ≡ true
   covers_at h e = covers_from a (λ k. same_place (keys_of g a k) q) q x h (rw (key_back h.0 ∙ e) (same_self q))
 
-  pub at_covers : covers x (part_at a (keys_of g a) q) ≡ true → InExtent (part_at a (keys_of g a) q) x × (g a.hart a.tag x ≡ q)
+  pub at_covers : has_byte x (part_at a (keys_of g a) q) ≡ true → InExtent (part_at a (keys_of g a) q) x × (g a.hart a.tag x ≡ q)
   at_covers c = let r = covers_parts a (λ k. same_place (keys_of g a k) q) q x c in (r.0, sym (key_back r.0.0) ∙ same_is _ q r.1)
 
-  pub put_at_part : covers x (part_at a (keys_of g a) q) ≡ true → put_at (part_at a (keys_of g a) q) x ≡ slice_index a.put (x - a.extent.addr)
+  pub put_at_part : has_byte x (part_at a (keys_of g a) q) ≡ true → put_at (part_at a (keys_of g a) q) x ≡ slice_index a.put (x - a.extent.addr)
   put_at_part c = put_is a (λ k. same_place (keys_of g a k) q) q x (covers_parts a (λ k. same_place (keys_of g a k) q) q x c).1

@@ -7,9 +7,11 @@ use Rattle.std.specs.Int.{bit_at}
 use Rattle.tandem_base.specs.declared.names.Place.{Place}
 use Rattle.rvwmo_model.specs.declared.operations.Op.{Op}
 use Rattle.trace_model.proofs.Lists.{In}
-use Rattle.rvwmo_model.specs.Order.{covers, put_at}
+use Rattle.rvwmo_model.specs.Order.{has_byte, put_at}
+use Rattle.tandem_base.specs.Extents.{is_among}
+use Rattle.rvwmo_model.proofs.Extents.{bounds_of, from_bounds}
 use Rattle.rvwmo_model.specs.InForm.{IsWhole}
-use Rattle.growth_laws.specs.Kinds.{IsNamed, InExtent}
+use Rattle.growth_laws.specs.Kinds.{IsNamed}
 use Rattle.trace_model.specs.Groups.{Access, mask_from, first_from, masked_from, op_of, same_place, part_at, some_below, parts_below}
 
 pub fun_ext : {X Y : Type 0} (f g : X → Y) → ((x : X) → f x ≡ g x) → f ≡ g
@@ -156,21 +158,24 @@ part_from a f (suc n) v h = at (some_below (λ j. same_place (f j) (f n)) n) h (
 
 -- ---- the operation of some bytes of an access
 
+-- byte x lies in the extent of o
+abbrev pub InExtent : Op → ℕ → Type 0
+InExtent o x = (o.extent.addr ≤ x) × (x < o.extent.addr + o.extent.len)
+
 module _ (a : Access) (p : ℕ → Bool) (q : Option Place) where
   -- byte x is in the operation exactly where it is in the extent and passes
-  pub covers_from : (x : ℕ) → InExtent (op_of a p q) x → p (x - a.extent.addr) ≡ true → covers x (op_of a p q) ≡ true
+  pub covers_from : (x : ℕ) → InExtent (op_of a p q) x → p (x - a.extent.addr) ≡ true → has_byte x (op_of a p q) ≡ true
   covers_from x h e =
       let l : x - a.extent.addr < a.extent.len = omega (arith, h.0, h.1) in
-      and_from _ _ (and_from _ _ (le-leb _ _ h.0) (lt-ltb _ _ l)) (eq-eqb _ _ (mask_bit p 0 a.extent.len (x - a.extent.addr) l ∙ ap (λ b. cond b 1 0) (ap p (let z : 0 + (x - a.extent.addr) ≡ x - a.extent.addr = omega arith in z) ∙ e)))
+      and_from _ _ (from_bounds a.extent x h.0 h.1) (eq-eqb _ _ (mask_bit p 0 a.extent.len (x - a.extent.addr) l ∙ ap (λ b. cond b 1 0) (ap p (let z : 0 + (x - a.extent.addr) ≡ x - a.extent.addr = omega arith in z) ∙ e)))
 
-  pub covers_parts : (x : ℕ) → covers x (op_of a p q) ≡ true → InExtent (op_of a p q) x × (p (x - a.extent.addr) ≡ true)
+  pub covers_parts : (x : ℕ) → has_byte x (op_of a p q) ≡ true → InExtent (op_of a p q) x × (p (x - a.extent.addr) ≡ true)
   covers_parts x e =
       let one : ℕ = 1 in
-      let r = and_parts (leb a.extent.addr x && ltb (x - a.extent.addr) a.extent.len) (eqb (bit_at (mask_from p 0 a.extent.len) (x - a.extent.addr)) one) e in
-      let s = and_parts (leb a.extent.addr x) (ltb (x - a.extent.addr) a.extent.len) r.0 in
-      let l = ltb-true _ _ s.1 in
-      let g = leb-true _ _ s.0 in
-      ((g, omega (arith, l, g)), ap p (let z : x - a.extent.addr ≡ 0 + (x - a.extent.addr) = omega arith in z) ∙ at (p (0 + (x - a.extent.addr))) _ (mask_bit p 0 a.extent.len (x - a.extent.addr) l) (eqb-true _ _ r.1))
+      let r = and_parts (is_among a.extent.addr a.extent.len x) (eqb (bit_at (mask_from p 0 a.extent.len) (x - a.extent.addr)) one) e in
+      let b = bounds_of a.extent x r.0 in
+      let l : x - a.extent.addr < a.extent.len = omega (arith, b.0, b.1) in
+      ((b.0, b.1), ap p (let z : x - a.extent.addr ≡ 0 + (x - a.extent.addr) = omega arith in z) ∙ at (p (0 + (x - a.extent.addr))) _ (mask_bit p 0 a.extent.len (x - a.extent.addr) l) (eqb-true _ _ r.1))
     where
       at : (b : Bool) → (m : ℕ) → m ≡ cond b 1 0 → m ≡ 1 → b ≡ true
       at true m e f = refl

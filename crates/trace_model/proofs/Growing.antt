@@ -16,7 +16,7 @@ use Rattle.rvwmo_model.specs.declared.operations.Op.{Op}
 use Rattle.rvwmo_model.specs.declared.traces.Trace.{Trace}
 use Rattle.rvwmo_model.specs.Order.{everything}
 use Rattle.rvwmo_model.specs.InForm.{AreRising}
-use Rattle.growth_laws.specs.Growth.{Same, AddEarly, Performs, Growth, grow_same, grow_early, grow_insn, grow_stores}
+use Rattle.growth_laws.specs.Growth.{Same, AddEarly, Performs}
 use Rattle.matching.specs.declared.reports.Report.{Report}
 use Rattle.matching.specs.declared.stores.Held.{Held}
 use Rattle.matching.specs.declared.stores.Fate.TheVariants.{Nothing}
@@ -26,6 +26,8 @@ use Rattle.matching.specs.Reports.{report_of, live, early, place_of_report}
 use Rattle.matching.specs.Fates.{waiting, fate, place_of}
 use Rattle.matching.specs.Runs.{run_of, doing_at}
 use Rattle.trace_model.specs.Entries.{Entry, insns_of}
+use Rattle.trace_model.specs.Parts.{IsPartFor, ArePartsFor}
+use Rattle.trace_model.specs.Growths.{GrownBy, own_place}
 use Rattle.trace_model.specs.Traces.{entry_in, with_entry, entries, places, early_extent, early_op, granule_of, stored_at, trace_of}
 use Rattle.trace_model.proofs.Lists.{In, listed}
 use Rattle.trace_model.proofs.Extents.{extent_is}
@@ -99,10 +101,10 @@ module _ (image : Loaded) (before : List Message) (s : Suited image before) (hea
   pub inserts : (piece : Piece) → SuitsBody image before head (body.Insert piece) → Same old (new (body.Insert piece))
   inserts piece t = insert_same image before head piece (fits image before head (body.Insert piece) t) settled
 
-  pub writes : (write : LineWrite) → (parts : List Op) × Performs head.hart old parts (new (body.Write write))
+  pub writes : (write : LineWrite) → (parts : List Op) × Performs head.hart old parts (new (body.Write write)) × ArePartsFor head.hart head.time (number_after before) (waiting before head.hart write.line) parts
   writes write = write_grows image before head write (clean image before s) good (λ e i. stored image before s head.hart write.line e i) below
 
-  pub bypasses : (piece : Piece) → SuitsBody image before head (body.Bypass piece) → is_early before head ≡ false → (parts : List Op) × Performs head.hart old parts (new (body.Bypass piece))
+  pub bypasses : (piece : Piece) → SuitsBody image before head (body.Bypass piece) → is_early before head ≡ false → (o : Op) × Performs head.hart old (o ∷ []) (new (body.Bypass piece)) × IsPartFor head.hart head.tag (own_place head.time (number_after before)) piece o
   bypasses piece t plain =
       let k = (t.1 plain).known in
       bypass_grows image before head piece plain k.entry k.access good k.there k.stores (fits image before head (body.Bypass piece) t) k.hart k.tag k.inside k.some (below (number_after before))
@@ -124,7 +126,7 @@ module _ (image : Loaded) (before : List Message) (s : Suited image before) (hea
         absurd (omega (arith, l, n.1, k.tag))
   ]
 
-  pub retires : (retire : Retire) → SuitsBody image before head (body.Retire retire) → Growth old (new (body.Retire retire))
+  pub retires : (retire : Retire) → SuitsBody image before head (body.Retire retire) → GrownBy old (new (body.Retire retire)) (places before) (entry_in image before head (body.Retire retire))
   retires retire t =
       retire_grows (entries image before) (places before) (live before head.hart) (early before) (run_of image before head.hart).pair (granule_of before) head (stored_at image before head retire) good
       (all_below_entry image before s head.hart head.tag t.younger) t.older

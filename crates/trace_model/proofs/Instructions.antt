@@ -7,9 +7,10 @@ use Rattle.rv_step.specs.Promises.{is_plain, reads_counter}
 use Rattle.rvwmo_model.specs.declared.operations.OpKind.{OpKind}
 use Rattle.rvwmo_model.specs.declared.operations.OpKind.TheVariants as kind
 use Rattle.rvwmo_model.specs.declared.operations.Ann.TheVariants as ann
-use Rattle.rvwmo_model.specs.InsnKinds.{is_lr, is_sc, is_amo_or_sc}
-use Rattle.growth_laws.specs.Kinds.{is_store, kind_of_insn}
-use Rattle.rv_step.specs.Promises as step
+use Rattle.rv_decode.specs.Kinds.{is_lr, is_sc, is_amo_or_sc}
+use Rattle.rv_decode.specs.Kinds.{is_store}
+use Rattle.growth_laws.specs.Kinds.{kind_of_insn}
+use Rattle.rv_decode.specs.Kinds.{is_load, is_amo}
 use Rattle.trace_model.specs.Retirements.{acquire_of, release_of}
 
 -- an LR or an SC
@@ -39,7 +40,7 @@ pub record IsLoad (i : Insn) : Type 0 where
   pub no_lr : is_lr i ≡ false
   pub apart : reserves i ≡ false
 
-pub load_kind : (i : Insn) → step.is_load i ≡ true → IsLoad i
+pub load_kind : (i : Insn) → is_load i ≡ true → IsLoad i
 load_kind (Load op rd rs1 imm) e = record { loads = refl; no_lr = refl; apart = refl }
 load_kind _ e = absurd (false≢true e)
 
@@ -48,7 +49,7 @@ pub record IsLr (i : Insn) : Type 0 where
   pub loads : kind_of_insn i false ≡ Some kind.Load
   pub lr : is_lr i ≡ true
 
-pub lr_kind : (i : Insn) → step.is_lr i ≡ true → IsLr i
+pub lr_kind : (i : Insn) → is_lr i ≡ true → IsLr i
 lr_kind (Lr wide aq rl rd rs1) e = record { loads = refl; lr = refl }
 lr_kind _ e = absurd (false≢true e)
 
@@ -60,7 +61,7 @@ pub record IsStore (i : Insn) : Type 0 where
   pub acquire : acquire_of i ≡ ann.None
   pub release : release_of i ≡ ann.None
 
-pub store_kind : (i : Insn) → step.is_store i ≡ true → IsStore i
+pub store_kind : (i : Insn) → is_store i ≡ true → IsStore i
 store_kind (Store op rs1 rs2 imm) e = record { stores = refl; plain = refl; apart = refl; acquire = refl; release = refl }
 store_kind _ e = absurd (false≢true e)
 
@@ -71,7 +72,7 @@ pub record IsSc (i : Insn) : Type 0 where
   pub sc : is_sc i ≡ true
   pub atomic : is_amo_or_sc i ≡ true
 
-pub sc_kind : (i : Insn) → step.is_sc i ≡ true → IsSc i
+pub sc_kind : (i : Insn) → is_sc i ≡ true → IsSc i
 sc_kind (Sc wide aq rl rd rs1 rs2) e = record { failed = refl; stored = refl; sc = refl; atomic = refl }
 sc_kind _ e = absurd (false≢true e)
 
@@ -82,6 +83,6 @@ pub record IsAmo (i : Insn) : Type 0 where
   pub no_sc : is_sc i ≡ false
   pub apart : reserves i ≡ false
 
-pub amo_kind : (i : Insn) → step.is_amo i ≡ true → IsAmo i
+pub amo_kind : (i : Insn) → is_amo i ≡ true → IsAmo i
 amo_kind (Amo op wide aq rl rd rs1 rs2) e = record { both = refl; atomic = refl; no_sc = refl; apart = refl }
 amo_kind _ e = absurd (false≢true e)

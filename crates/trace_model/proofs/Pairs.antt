@@ -13,8 +13,8 @@ use Rattle.elf_image.specs.Images.{Loaded}
 use Rattle.rv_decode.specs.declared.instruction.Insn.{Insn}
 use Rattle.rv_step.specs.Steps.{Doing, trap, plain, counter, load, store, lr, sc, amo}
 use Rattle.rvwmo_model.specs.declared.operations.Op.{Op}
-use Rattle.rvwmo_model.specs.Order.{covers}
-use Rattle.rvwmo_model.specs.InsnKinds.{is_lr, is_sc}
+use Rattle.rvwmo_model.specs.Order.{has_byte}
+use Rattle.rv_decode.specs.Kinds.{is_lr, is_sc}
 use Rattle.matching.specs.declared.reports.Report.{Report}
 use Rattle.matching.specs.declared.run.Pair.{Pair}
 use Rattle.matching.specs.Reports.{live, early, early_of, counting, place_counted}
@@ -41,7 +41,7 @@ pub record HasLr (es : List Entry) (h : ℕ) (p : Pair) : Type 0 where
   pub lr : is_lr entry.insn.insn ≡ true
   pub op : Op
   pub memory : entry.memory ≡ Fixed (op ∷ [])
-  pub whole : (x : ℕ) → p.addr ≤ x → x < p.addr + p.len → covers x op ≡ true
+  pub whole : (x : ℕ) → p.addr ≤ x → x < p.addr + p.len → has_byte x op ≡ true
   pub last : (f : Entry) → In f es → f.insn.hart ≡ h → entry.insn.tag < f.insn.tag → reserves f.insn.insn ≡ false
 
 -- one more entry that reserves nothing
@@ -62,7 +62,7 @@ has_more es o h p quiet k = record {
 -- the operation of an LR: its only one, with all bytes
 pub record IsLrOp (ops : List Op) (addr len : ℕ) (o : Op) : Type 0 where
   pub one : ops ≡ o ∷ []
-  pub whole : (x : ℕ) → addr ≤ x → x < addr + len → covers x o ≡ true
+  pub whole : (x : ℕ) → addr ≤ x → x < addr + len → has_byte x o ≡ true
 
 module _ (live : List Report) (head : Head) (insn : Insn) (addr len : ℕ) (extent : Extent) (a : extent.addr ≡ addr) (b : extent.len ≡ len) (one : IsOneRead live head.tag addr len) where
   abbrev access : Access

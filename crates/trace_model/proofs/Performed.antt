@@ -8,10 +8,10 @@ use Rattle.trace_model.proofs.Lists.{In, listed, contained}
 use Rattle.rvwmo_model.specs.Order.{everything}
 use Rattle.std.specs.List.{Contains}
 use Rattle.tandem_base.specs.Places.{earlier}
-use Rattle.rvwmo_model.specs.Order.{covers, stands_before}
+use Rattle.rvwmo_model.specs.Order.{has_byte, stands_before}
 use Rattle.trace_model.proofs.Lists.{in_left}
 use Rattle.std.proofs.lemmas.Bool.Decides.{nat_tests}
-use Rattle.growth_laws.specs.Kinds.{InExtent}
+use Rattle.trace_model.proofs.Groups.{InExtent}
 use Rattle.growth_laws.specs.Growth.{SameMembers, IsAbove, IsPartOf, PerformsPart}
 use Rattle.trace_model.proofs.AreEntries.{AreEntries, one_store, ops_once}
 use Rattle.growth_laws.proofs.Places.{not_both}
@@ -44,12 +44,14 @@ pub members_self : (xs : List Op) → SameMembers xs xs
 members_self xs = record { on = λ v h. h; back = λ v h. h }
 
 -- one part is performed at p
-pub record IsStep (u v : Trace) (h : ℕ) (p : Place) : Type 0 where
+pub record IsStep (u v : Trace) (h k : ℕ) (p : Place) (b : ℕ → Bool) : Type 0 where
   pub old : Op
   pub new : Op
   pub rest : Option Op
   pub hart : new.name.hart ≡ h
+  pub tag : new.name.tag ≡ k
   pub place : new.place ≡ Some p
+  pub bytes : (x : ℕ) → has_byte x new ≡ b x
   pub performs : PerformsPart u v old new rest
 
 abbrev pub rest_at : Bool → Op → Option Op
@@ -182,8 +184,8 @@ module _ (es : List Entry) (early : List Op) (granule : ℕ) (g g' : Places) (a 
       let same : c ≡ a = one_store es good e f a c there i doing d (sym (ap (λ (z : Op). z.name.hart) s)) (sym (ap (λ (z : Op). z.name.tag) s)) in
       let none : keys_of g' c k ≡ None = sym (ap (λ (z : Op). z.place) s) in
       let is : o ≡ part_at a (keys_of g' a) None = s ∙ ap (part_at c (keys_of g' c)) none ∙ ap (λ (z : Access). part_at z (keys_of g' z) None) same in
-      let c : covers m.some.0 o ≡ true = covers_at g a None m.some.0 x0_in (m.was m.some.0 m.some.1) in
-      let z : None ≡ Some p = sym (at_covers g' a None m.some.0 (subst (λ (z : Op). covers m.some.0 z ≡ true) is c)).1 ∙ m.is m.some.0 m.some.1 in
+      let c : has_byte m.some.0 o ≡ true = covers_at g a None m.some.0 x0_in (m.was m.some.0 m.some.1) in
+      let z : None ≡ Some p = sym (at_covers g' a None m.some.0 (subst (λ (z : Op). has_byte m.some.0 z ≡ true) is c)).1 ∙ m.is m.some.0 m.some.1 in
       cc
 
   -- the bytes at q are part of o, where all of them were not performed
@@ -196,7 +198,7 @@ module _ (es : List Entry) (early : List Op) (granule : ℕ) (g g' : Places) (a 
     release = refl;
     bytes = λ x c.
         let r = at_covers g' a q x c in
-        let d : covers x o ≡ true = covers_at g a None x r.0 (from x r.0 r.1) in
+        let d : has_byte x o ≡ true = covers_at g a None x r.0 (from x r.0 r.1) in
         (d, put_at_part g' a q x c ∙ sym (put_at_part g a None x d));
     whole = let s = (good.each e there).sized a doing in whole_op a (λ j. same_place (keys_of g' a j) q) q k l (passes) s.0 s.1;
     named = named_op a (λ j. same_place (keys_of g' a j) q) q k l (passes);
@@ -232,21 +234,21 @@ module _ (es : List Entry) (early : List Op) (granule : ℕ) (g g' : Places) (a 
       let y = is_left v r in
       subst (λ (z : Op). In z t'.ops × (z.place ≡ None) × IsPartOf z o) y.0 (stored_in' y.1.0 None y.1.1 y.1.2, refl, part_of None y.1.0 y.1.1 y.1.2 from_none)
 
-  all_bytes : (x : ℕ) → covers x o ≡ true → (covers x part ≡ true) ⊎ ((v : Op) × (rest ≡ Some v) × (covers x v ≡ true))
+  all_bytes : (x : ℕ) → has_byte x o ≡ true → (has_byte x part ≡ true) ⊎ ((v : Op) × (rest ≡ Some v) × (has_byte x v ≡ true))
   all_bytes x c = at (b x) refl
     where
       was : InExtent o x × (g a.hart a.tag x ≡ None)
       was = at_covers g a None x c
 
-      at : (d : Bool) → b x ≡ d → (covers x part ≡ true) ⊎ ((v : Op) × (rest ≡ Some v) × (covers x v ≡ true))
+      at : (d : Bool) → b x ≡ d → (has_byte x part ≡ true) ⊎ ((v : Op) × (rest ≡ Some v) × (has_byte x v ≡ true))
       at true j = inl (covers_at g' a (Some p) x was.0 (m.is x j))
       at false j =
           let none : g' a.hart a.tag x ≡ None = m.stays x j ∙ was.1 in
           inr (left, has_rest (x - a.extent.addr) (omega (arith, was.0.0, was.0.1)) (key_back g' a None x was.0.0 ∙ none), covers_at g' a None x was.0 none)
 
-  apart : (v : Op) (x : ℕ) → rest ≡ Some v → covers x part ≡ true → covers x v ≡ true → ⊥
+  apart : (v : Op) (x : ℕ) → rest ≡ Some v → has_byte x part ≡ true → has_byte x v ≡ true → ⊥
   apart v x r c d =
-      let z : None ≡ Some p = sym (at_covers g' a None x (subst (λ (z : Op). covers x z ≡ true) (sym (is_left v r).0) d)).1 ∙ (at_covers g' a (Some p) x c).1 in
+      let z : None ≡ Some p = sym (at_covers g' a None x (subst (λ (z : Op). has_byte x z ≡ true) (sym (is_left v r).0) d)).1 ∙ (at_covers g' a (Some p) x c).1 in
       cc
 
   or_contained : {v : Op} {P : Type 0} → P ⊎ In v t'.ops → P ⊎ Contains t'.ops v
@@ -276,5 +278,15 @@ module _ (es : List Entry) (early : List Op) (granule : ℕ) (g g' : Places) (a 
     disjoint = apart;
   }
 
-  pub steps : (h : ℕ) → a.hart ≡ h → IsStep t t' h p
-  steps h f = record { old = o; new = part; rest = rest; hart = f; place = refl; performs = performs }
+  bytes_of : (x : ℕ) → has_byte x part ≡ b x
+  bytes_of x = at (b x) refl (has_byte x part) refl
+    where
+      at : (c : Bool) → b x ≡ c → (d : Bool) → has_byte x part ≡ d → has_byte x part ≡ b x
+      at true j d r = covers_at g' a (Some p) x (m.inside x j) (m.is x j) ∙ sym j
+      at false j false r = r ∙ sym j
+      at false j true r =
+          let y = at_covers g' a (Some p) x r in
+          absurd (new (x - a.extent.addr) (omega (arith, y.0.0, y.0.1)) (key_back g a None x y.0.0 ∙ sym (m.stays x j) ∙ y.1))
+
+  pub steps : (h k : ℕ) → a.hart ≡ h → a.tag ≡ k → IsStep t t' h k p b
+  steps h k f q = record { old = o; new = part; rest = rest; hart = f; tag = q; place = refl; bytes = bytes_of; performs = performs }

@@ -10,12 +10,14 @@ use Rattle.rvwmo_model.specs.declared.traces.Trace.{Trace}
 use Rattle.std.specs.List.{AllPairs, flat_map}
 use Rattle.trace_model.proofs.Lists.{In, listed, contained, pairs_of, of_pairs, pairs_append}
 use Rattle.rvwmo_model.specs.Order.{everything}
-use Rattle.rvwmo_model.specs.Order.{covers}
-use Rattle.rvwmo_model.specs.InsnKinds.{is_lr}
+use Rattle.rvwmo_model.specs.Order.{has_byte}
+use Rattle.rv_decode.specs.Kinds.{is_lr}
 use Rattle.rvwmo_model.specs.ProgramOrder.{insn_at}
 use Rattle.rvwmo_model.specs.InForm.{AreRising, IsPlaced, IsWhole}
 use Rattle.trace_model.proofs.Lists.{in_left, in_right, in_cases}
-use Rattle.growth_laws.specs.Kinds.{is_store, kind_of, IsPlainAnnotated, IsNamed}
+use Rattle.rv_decode.specs.Kinds.{is_store}
+use Rattle.growth_laws.specs.Kinds.{kind_of, IsPlainAnnotated, IsNamed}
+use Rattle.rvwmo_model.proofs.Extents.{bounds_of}
 use Rattle.growth_laws.specs.Growth.{SameMembers, AreOf, AddsLoads, AddsStore, Adds, AddInsn}
 use Rattle.trace_model.specs.Groups.{Access, same_place, part_at, parts_below, parts_of}
 use Rattle.trace_model.specs.Entries.{Entry, Places, entry_ops, insns_of, built}
@@ -98,10 +100,10 @@ module _ (a : Access) (f : ℕ → Option Place) (r : Retired) (hart : a.hart �
       let q : f y.0 ≡ f z.0 = sym (ap (λ (w : Op). w.place) y.2) ∙ e ∙ ap (λ (w : Op). w.place) z.2 in
       y.2 ∙ ap (part_at a f) q ∙ sym z.2
 
-  at_byte : (u : Op) (x : ℕ) → In u (parts_of a f) → covers x u ≡ true → f (x - a.extent.addr) ≡ u.place
+  at_byte : (u : Op) (x : ℕ) → In u (parts_of a f) → has_byte x u ≡ true → f (x - a.extent.addr) ≡ u.place
   at_byte u x i c =
       let y = part_from a f a.extent.len u i in
-      same_is _ _ (covers_parts a (λ k. same_place (f k) (f y.0)) (f y.0) x (subst (λ (z : Op). covers x z ≡ true) y.2 c)).1 ∙ sym (ap (λ (w : Op). w.place) y.2)
+      same_is _ _ (covers_parts a (λ k. same_place (f k) (f y.0)) (f y.0) x (subst (λ (z : Op). has_byte x z ≡ true) y.2 c)).1 ∙ sym (ap (λ (w : Op). w.place) y.2)
 
   pub are_of : AreOf r (parts_of a f)
   are_of = record {
@@ -139,6 +141,6 @@ module _ (a : Access) (f : ℕ → Option Place) (r : Retired) (hart : a.hart �
       early = early;
       one = one_place a f None a.extent.len none a.extent.sized.0;
       unperformed = refl;
-      all = λ x i. covers_from a (λ k. same_place (f k) None) None x i (ap (λ z. same_place z None) (none (x - a.extent.addr) (omega (arith, i.0, i.1))));
+      all = λ x c. let i = bounds_of a.extent x c in covers_from a (λ k. same_place (f k) None) None x i (ap (λ z. same_place z None) (none (x - a.extent.addr) (omega (arith, i.0, i.1))));
       plain = plain;
     }

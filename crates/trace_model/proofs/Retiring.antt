@@ -17,16 +17,17 @@ use Rattle.rvwmo_model.specs.declared.operations.OpKind.TheVariants as kind
 use Rattle.rvwmo_model.specs.declared.operations.Ann.{Ann}
 use Rattle.rvwmo_model.specs.declared.operations.Ann.TheVariants as ann
 use Rattle.rvwmo_model.specs.declared.traces.Trace.{Trace}
-use Rattle.rvwmo_model.specs.Order.{covers, everything}
+use Rattle.rvwmo_model.specs.Order.{has_byte, everything}
 use Rattle.rvwmo_model.specs.InForm.{AreRising, IsOf, IsWhole}
-use Rattle.rvwmo_model.specs.InsnKinds.{is_lr, is_sc, is_amo_or_sc, has_stored}
+use Rattle.rv_decode.specs.Kinds.{is_lr, is_sc, is_amo_or_sc}
+use Rattle.rvwmo_model.specs.InsnKinds.{has_stored}
 use Rattle.rvwmo_model.specs.Annotations.{is_rcsc}
 use Rattle.rvwmo_model.specs.Atomicity.{IsPair, IsWithin}
 use Rattle.rvwmo_model.specs.ProgramOrder.{insn_at, is_one}
 use Rattle.rvwmo_model.proofs.Membership.{nothing_in}
 use Rattle.rvwmo_model.proofs.LookUp.{found_in, named_self}
 use Rattle.growth_laws.specs.Kinds.{kind_of_insn, kind_of, IsNamed}
-use Rattle.growth_laws.specs.Growth.{SameMembers, AreOf, Adds, adds_loads, adds_store, adds_atomic, adds_nothing, AddInsn, Same, Growth, grow_same, grow_insn}
+use Rattle.growth_laws.specs.Growth.{SameMembers, AreOf, Adds, adds_loads, adds_store, adds_atomic, adds_nothing, AddInsn}
 use Rattle.matching.specs.declared.reports.Report.{Report}
 use Rattle.matching.specs.declared.run.Pair.{Pair}
 use Rattle.matching.specs.Searches.{latest}
@@ -35,6 +36,7 @@ use Rattle.trace_model.specs.Extents.{extent_of}
 use Rattle.trace_model.specs.Groups.{Access, mask_from, op_of, part_at, parts_of}
 use Rattle.trace_model.specs.Entries.{Fixed, Stores, Entry, Places, keys_of, memory_ops, entry_ops, insns_of, built}
 use Rattle.trace_model.specs.Retirements.{acquire_of, release_of, load_access, read_places, load_ops, store_access, bypass_access, bypass_op, atomic_ops, amo_ops, sc_ops, entry, entry_of}
+use Rattle.trace_model.specs.Growths.{GrownBy}
 use Rattle.trace_model.specs.Traces.{early_extent, early_op, with_entry}
 use Rattle.trace_model.proofs.Lists.{In, listed, contained, in_left, in_right, in_cases, in_flat, from_map, from_filter}
 use Rattle.trace_model.proofs.Extents.{extent_is}
@@ -84,6 +86,10 @@ module _ (es : List Entry) (g : Places) (live early : List Report) (pair : Optio
   abbrev pub after : Option Entry → Trace
   after o = built (with_entry o es) g (map early_op others) granule
 
+  -- what a Retire does
+  abbrev Grown : Option Entry → Type 0
+  Grown o = GrownBy t (after o) g o
+
   younger_insn : (w : Retired) → In w (insns_of es) → w.hart ≡ head.hart → w.tag < head.tag
   younger_insn w i h =
       let r = from_insn es w i in
@@ -109,10 +115,9 @@ module _ (es : List Entry) (g : Places) (live early : List Report) (pair : Optio
 
   -- an entry more
   more : (insn : Insn) (stored : Bool) (m : _) → IsEntry (entry head insn stored m) → AreOf (entry head insn stored m).insn (entry_ops g (entry head insn stored m))
-      → Adds t (after (Some (entry head insn stored m))) (entry head insn stored m).insn (entry_ops g (entry head insn stored m)) → Growth t (after (Some (entry head insn stored m)))
+      → Adds t (after (Some (entry head insn stored m))) (entry head insn stored m).insn (entry_ops g (entry head insn stored m)) → Grown (Some (entry head insn stored m))
   more insn stored m k are how =
       let e : Entry = entry head insn stored m in
-      grow_insn e.insn (entry_ops g e)
       (adds es g (map early_op early) (map early_op others) granule e good.rising younger_insn (ops_once g (e ∷ es) (good_more e k refl refl)) older_ops are how)
 
   -- ---- nothing
@@ -120,12 +125,12 @@ module _ (es : List Entry) (g : Places) (live early : List Report) (pair : Optio
   same_early : HasNone early head → SameMembers (map early_op early) (map early_op others)
   same_early none = none_leaves early head.hart head.tag none
 
-  pub traps : HasNone early head → Growth t (after None)
-  traps none = grow_same (record {
+  pub traps : HasNone early head → Grown None
+  traps none = record {
     keeps = record { insns = λ h k. refl; rising = good.rising; once = ops_once g es good; granule = refl };
     ops = members_self t.ops;
     early = same_early none;
-  })
+  }
 
   nothing_of : (r : Retired) → AreOf r []
   nothing_of r = record {
@@ -137,7 +142,7 @@ module _ (es : List Entry) (g : Places) (live early : List Report) (pair : Optio
     disjoint = λ a b x h i c d. absurd (nothing_in a h);
   }
 
-  pub adds_none : (insn : Insn) (stored : Bool) → IsEntry (entry head insn stored (Fixed [])) → kind_of (entry head insn stored (Fixed [])).insn ≡ None → HasNone early head → Growth t (after (Some (entry head insn stored (Fixed []))))
+  pub adds_none : (insn : Insn) (stored : Bool) → IsEntry (entry head insn stored (Fixed [])) → kind_of (entry head insn stored (Fixed [])).insn ≡ None → HasNone early head → Grown (Some (entry head insn stored (Fixed [])))
   adds_none insn stored k nothing none =
       more insn stored (Fixed []) k (nothing_of (entry head insn stored (Fixed [])).insn) (adds_nothing (record { nothing = nothing; early = same_early none; none = refl }))
 
@@ -167,7 +172,7 @@ module _ (es : List Entry) (g : Places) (live early : List Report) (pair : Optio
     ]
 
     pub adds_a_load : IsEntry e → HasNone early head → kind_of e.insn ≡ Some kind.Load
-        → (is_lr insn ≡ true → ((k : ℕ) → k < extent.len → places k ≡ places 0) × (0 < granule → IsAligned extent)) → Growth t (after (Some e))
+        → (is_lr insn ≡ true → ((k : ℕ) → k < extent.len → places k ≡ places 0) × (0 < granule → IsAligned extent)) → Grown (Some e)
     adds_a_load k none loads reserved =
         more insn false (Fixed (load_ops live head insn extent)) k
         (are_of access places e.insn refl refl loads (counted_length live head.tag extent.addr extent.len) (length-replicate extent.len 0))
@@ -183,7 +188,7 @@ module _ (es : List Entry) (g : Places) (live early : List Report) (pair : Optio
     abbrev stored_entry : Entry
     stored_entry = entry head insn false (Stores stored_access)
 
-    pub adds_a_store : IsEntry stored_entry → HasNone early head → IsStore insn → length put ≡ extent.len → ((x : ℕ) → g head.hart head.tag x ≡ None) → Growth t (after (Some stored_entry))
+    pub adds_a_store : IsEntry stored_entry → HasNone early head → IsStore insn → length put ≡ extent.len → ((x : ℕ) → g head.hart head.tag x ≡ None) → Grown (Some stored_entry)
     adds_a_store k none is size unperformed =
         let keys : ℕ → Option Place = keys_of g stored_access in
         more insn false (Stores stored_access) k
@@ -219,7 +224,7 @@ module _ (es : List Entry) (g : Places) (live early : List Report) (pair : Optio
         only v h = elim (listed (o ∷ []) v h) [ inl e ↦ e | inr i ↦ absurd i ]
 
     pub adds_an_atomic : IsEntry atomic_entry → is_amo_or_sc insn ≡ true → ((r : Report) → In r early → is_report head.hart head.tag r ≡ true → r ≡ b)
-        → (is_sc insn ≡ true → (l : Op) × IsPair (after (Some atomic_entry)) l o × IsWithin o l) → Growth t (after (Some atomic_entry))
+        → (is_sc insn ≡ true → (l : Op) × IsPair (after (Some atomic_entry)) l o × IsWithin o l) → Grown (Some atomic_entry)
     adds_an_atomic made atomic one pairs =
         more insn stored (Fixed (o ∷ [])) made atomic_of
         (adds_atomic (early_op b) o (adds_atomic_of early head.hart head.tag b is one t (after (Some atomic_entry)) atomic_entry.insn k extent got aq rl refl refl atomic over pairs))
@@ -281,7 +286,7 @@ module _ (es : List Entry) (g : Places) (live early : List Report) (pair : Optio
       (one : (q r : Report) → In q early → In r early → q.hart ≡ r.hart → q.tag ≡ r.tag → q ≡ r)
       (unperformed : (x : ℕ) → g head.hart head.tag x ≡ None) (paired : (p : Pair) → pair ≡ Some p → HasLr es head.hart p) where
     abbrev Grows : Doing → Type 0
-    Grows d = Growth t (after (entry_of live early head put d))
+    Grows d = Grown (entry_of live early head put d)
 
     made_of : (d : Doing) → SuitsDoing live early pair head put d → (e : Entry) → entry_of live early head put d ≡ Some e → IsEntry e
     made_of = made_entry live early pair head put
@@ -301,7 +306,7 @@ module _ (es : List Entry) (g : Places) (live early : List Report) (pair : Optio
         let is = amo_kind insn s.1 in
         let b = s.0 in
         let got : List ℕ = bytes_counted live head.tag (extent_of addr len).addr (extent_of addr len).len in
-        subst (λ (r : Option Report). Growth t (after (Some (entry head insn false (Fixed (atomic_ops kind.Both (extent_of addr len) got (acquire_of insn) (release_of insn) r)))))) (sym b.is)
+        subst (λ (r : Option Report). Grown (Some (entry head insn false (Fixed (atomic_ops kind.Both (extent_of addr len) got (acquire_of insn) (release_of insn) r))))) (sym b.is)
         (adds_an_atomic insn false kind.Both (extent_of addr len) got (acquire_of insn) (release_of insn) b.report b.is (over_is b.report addr len b.over)
         (counted_length live head.tag (extent_of addr len).addr (extent_of addr len).len) (b.over.1 ∙ sym x.len_is) is.both
         (made_of (amo insn addr len) s _ (ap (λ (r : Option Report). Some (entry head insn false (Fixed (atomic_ops kind.Both (extent_of addr len) got (acquire_of insn) (release_of insn) r)))) b.is))
@@ -315,7 +320,7 @@ module _ (es : List Entry) (g : Places) (live early : List Report) (pair : Optio
       where
         at : (early_of early head.hart head.tag ≡ None) ⊎ SuitsSc early pair head addr len → Grows (sc insn addr len)
         at (inl none) =
-            subst (λ (r : Option Report). Growth t (after (Some (sc_at insn (extent_of addr len) r)))) (sym none)
+            subst (λ (r : Option Report). Grown (Some (sc_at insn (extent_of addr len) r))) (sym none)
             (adds_none insn false (made_of (sc insn addr len) s _ (ap (λ (r : Option Report). Some (sc_at insn (extent_of addr len) r)) none)) (sc_kind insn s.1).failed
             (latest_none (is_report head.hart head.tag) early none))
         at (inr y) =
@@ -327,7 +332,7 @@ module _ (es : List Entry) (g : Places) (live early : List Report) (pair : Optio
             let over = over_is b.report addr len b.over in
             let got = length-replicate (extent_of addr len).len 0 in
             let size = b.over.1 ∙ sym x.len_is in
-            subst (λ (r : Option Report). Growth t (after (Some (sc_at insn (extent_of addr len) r)))) (sym b.is)
+            subst (λ (r : Option Report). Grown (Some (sc_at insn (extent_of addr len) r))) (sym b.is)
             (adds_an_atomic insn true kind.Store (extent_of addr len) (replicate (extent_of addr len).len 0) (acquire_of insn) (release_of insn) b.report b.is over got size is.stored
             made is.atomic (only_bypass b.report b.is)
             (λ q.

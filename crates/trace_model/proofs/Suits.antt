@@ -8,7 +8,8 @@ use Rattle.msg_frames.specs.declared.message.Body.TheVariants as body
 use Rattle.msg_frames.specs.declared.message.Message.{Message}
 use Rattle.elf_image.specs.Images.{Loaded}
 use Rattle.rv_step.specs.Steps.{Doing, trap, plain, counter, load, store, lr, sc, amo}
-use Rattle.rv_step.specs.Promises.{is_plain, reads_counter, is_load, is_store, is_lr, is_sc, is_amo}
+use Rattle.rv_decode.specs.Kinds.{is_load, is_store, is_lr, is_sc, is_amo}
+use Rattle.rv_step.specs.Promises.{is_plain, reads_counter}
 use Rattle.matching.specs.declared.run.Pair.{Pair}
 use Rattle.matching.specs.declared.reports.Report.{Report}
 use Rattle.matching.specs.Settings.{last_time}

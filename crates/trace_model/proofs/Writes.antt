@@ -22,6 +22,7 @@ use Rattle.matching.specs.Pieces.{has, line_of}
 use Rattle.matching.specs.Fates.{waiting_in, waiting, fate}
 use Rattle.trace_model.proofs.Fresh.{AreFresh}
 use Rattle.trace_model.specs.Entries.{Entry, Stores, Places, built}
+use Rattle.trace_model.specs.Parts.{ArePartsFor}
 use Rattle.trace_model.proofs.AreEntries.{AreEntries}
 use Rattle.trace_model.proofs.Performed.{Moves, IsBelow, IsStep, steps}
 use Rattle.trace_model.proofs.Waits.{waits, held_one, held_number, held_waits}
@@ -158,15 +159,15 @@ module _ (before : List Message) (clean : AreFresh before) (es : List Entry) (ea
       some = st.some;
     }
 
-    pub step : IsBelow (t js) (at_place e.number) → IsStep (t js) (t (e ∷ js)) h (at_place e.number)
-    step below = steps es early granule (places js) (places (e ∷ js)) st.access (at_place e.number) (has e.piece) st.entry good st.there st.stores moves below h st.hart
+    pub step : IsBelow (t js) (at_place e.number) → IsStep (t js) (t (e ∷ js)) h e.tag (at_place e.number) (has e.piece)
+    step below = steps es early granule (places js) (places (e ∷ js)) st.access (at_place e.number) (has e.piece) st.entry good st.there st.stores moves below h e.tag st.hart st.tag
 
   later : (i j : ℕ) → i < j → earlier (at_place i) (at_place j) ≡ true
   later i j l = grind (arith, nat_tests)
 
   -- all that is placed stays below a later place of this message
-  below_on : (u v : Trace) (i j : ℕ) → IsStep u v h (at_place i) → i < j → IsBelow u (at_place j) → IsBelow v (at_place j)
-  below_on u v i j s l below w q in_v e = elim (in_cases v.ops v.early w in_v) [
+  below_on : (u v : Trace) (i j k : ℕ) (b : ℕ → Bool) → IsStep u v h k (at_place i) b → i < j → IsBelow u (at_place j) → IsBelow v (at_place j)
+  below_on u v i j k b s l below w q in_v e = elim (in_cases v.ops v.early w in_v) [
     | inr a ↦ below w q (in_right u.ops u.early w (listed _ w (s.performs.early.back w (contained _ w a)))) e
     | inl a ↦ elim (s.performs.ops_back w (contained _ w a)) [
       | inl same ↦ let p : Some q ≡ Some (at_place i) = sym e ∙ ap (λ (z : Op). z.place) same ∙ s.place in subst (λ (z : Place). earlier z (at_place j) ≡ true) (let r : at_place i ≡ q = cc in r) (later i j l)
@@ -181,18 +182,20 @@ module _ (before : List Message) (clean : AreFresh before) (es : List Entry) (ea
   record Chain (js : List Held) : Type 0 where
     pub parts : List Op
     pub performs : Performs h (t []) parts (t js)
+    pub are : ArePartsFor h time n js parts
     pub below : (j : ℕ) → ((d : Held) → In d js → d.number < j) → IsBelow (t js) (at_place j)
 
   chain : ((j : ℕ) → IsBelow (t []) (at_place j)) → (js : List Held) → AreFalling js → ((d : Held) → In d js → In d (waiting before h l)) → Chain js
-  chain start [] falls all = record { parts = []; performs = no_parts; below = λ j less. start j }
+  chain start [] falls all = record { parts = []; performs = no_parts; are = tt; below = λ j less. start j }
   chain start (e ∷ js) falls all =
       let c = chain start js falls.1 (λ d i. all d (inr i)) in
       let s = step e js (all e (inl refl)) (λ d i. all d (inr i)) falls.0 (c.below e.number falls.0) in
       record {
         parts = s.new ∷ c.parts;
         performs = more_parts c.parts (t js) (t (e ∷ js)) s.old s.new s.rest c.performs s.hart s.performs;
-        below = λ j less. below_on (t js) (t (e ∷ js)) e.number j s (less e (inl refl)) (c.below j (λ d i. less d (inr i)));
+        are = (record { hart = s.hart; tag = s.tag; place = s.place; bytes = s.bytes }, c.are);
+        below = λ j less. below_on (t js) (t (e ∷ js)) e.number j e.tag (has e.piece) s (less e (inl refl)) (c.below j (λ d i. less d (inr i)));
       }
 
-  pub whole : ((j : ℕ) → IsBelow (t []) (at_place j)) → AreFalling (waiting before h l) → (parts : List Op) × Performs h (t []) parts (t (waiting before h l))
-  whole start falls = let c = chain start (waiting before h l) falls (λ d i. i) in (c.parts, c.performs)
+  pub whole : ((j : ℕ) → IsBelow (t []) (at_place j)) → AreFalling (waiting before h l) → (parts : List Op) × Performs h (t []) parts (t (waiting before h l)) × ArePartsFor h time n (waiting before h l) parts
+  whole start falls = let c = chain start (waiting before h l) falls (λ d i. i) in (c.parts, c.performs, c.are)
