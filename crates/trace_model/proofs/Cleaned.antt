@@ -32,7 +32,7 @@ use Rattle.matching.specs.Pieces.{has, line_of}
 use Rattle.matching.specs.Tags.{last_tag, is_younger, is_early}
 use Rattle.matching.specs.Reports.{report_of, is_report, is_for, live_in, live, early, early_of, counting}
 use Rattle.matching.specs.Fates.{fate, is_fresh}
-use Rattle.matching.specs.Runs.{Run, outside_of, done_of, run_of, plan_at, doing_at, bypass_at, effect_at}
+use Rattle.matching.specs.Runs.{Run, outside_of, done_of, run_of, plan_at, doing_at, bypass_at, effect_at, step_at}
 use Rattle.matching.specs.Stores.{new_store, stores_in, stores, store_under}
 use Rattle.matching.specs.Compares.{tag_fault_of}
 use Rattle.matching.specs.PartFaults.{is_in_image, is_in_line, range_fault_of, insert_range_fault, bypass_range_fault}
@@ -258,14 +258,14 @@ has_now : (image : Loaded) (before : List Message) (head : Head) (b : Body) (h :
 has_now image before head (body.Retire retire) h s rec i = at (eqb head.hart h) refl i
   where
     at : (c : Bool) → eqb head.hart h ≡ c
-        → In s (cond c (with_new (new_store (doing_at image before head.hart) head.tag
-        (effect_at image before head retire).store) (stores image before h)) (stores image before h))
+        → In s (cond c (with_new (new_store (doing_at image before h) head.tag
+        (step_at image before h head retire).effect.store) (stores image before h)) (stores image before h))
         → HasEntry (with_entry (entry_in image before head (body.Retire retire)) (entries image before)) h s
     at false q i = entry_more (entry_in image before head (body.Retire retire)) (entries image before) h s (rec i)
     at true q i = subst
         (λ (z : ℕ). (In s (stores image before z) → HasEntry (entries image before) z s)
-          → In s (with_new (new_store (doing_at image before head.hart) head.tag
-          (effect_at image before head retire).store) (stores image before z))
+          → In s (with_new (new_store (doing_at image before z) head.tag
+          (step_at image before z head retire).effect.store) (stores image before z))
           → HasEntry (with_entry (entry_in image before head (body.Retire retire)) (entries image before)) z s)
         (eqb-true head.hart h q) (has_new image before head retire s) rec i
 has_now image before head b h s rec i = entry_more (entry_in image before head b) (entries image before) h s (rec i)
@@ -329,6 +329,7 @@ module _ (image : Loaded) (before : List Message) (head : Head) (piece : Piece)
 
   parts : (is_within piece whole.piece ≡ true)
       × (not (is_some (first_below (is_again (fate_at before head.hart whole) piece whole) 8)) ≡ true)
+  unfolding is_known
   parts = and_parts (is_within piece whole.piece)
       (not (is_some (first_below (is_again (fate_at before head.hart whole) piece whole) 8))) part.known
 
@@ -600,7 +601,7 @@ pub record NoFaults (run : Run) (rs bs : List Report) (head : Head) (plan : Plan
 no_faults : (run : Run) (rs bs : List Report) (head : Head) (retire : Retire) (plan : PlanOf) (effect : Effect)
     (bypass : Option Report) → retire_fault_in run rs bs head retire plan effect bypass ≡ None
     → NoFaults run rs bs head plan bypass
-unfolding retire_fault_in
+unfolding retire_fault_in rows.effect_fault_in rows.register_fault_of
 no_faults run rs bs head retire plan effect bypass e =
     let a = both_none (stray_fault_of (lowest_stray plan.doing head.hart head.tag bs)) _ e in
     let b = both_none (pc_fault_of run.hart.pc retire.pc) _ a.1 in

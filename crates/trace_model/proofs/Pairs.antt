@@ -133,7 +133,7 @@ module _ (image : Loaded) (before : List Message) (suited : Suited image before)
   pair_now : (b : Body) → SuitsBody image before head b → (run_in image before (run_of image before h) head b h).pair ≡ Some p → Now b
   pair_now (body.Retire retire) t f = on (eqb head.hart h) refl f
     where
-      on : (c : Bool) → eqb head.hart h ≡ c → (cond c (run_retired (run_of image before h) (live before h) (early_of (early before) h head.tag) head.tag retire (doing_at image before h)) (run_of image before h)).pair ≡ Some p → Now (body.Retire retire)
+      on : (c : Bool) → eqb head.hart h ≡ c → (cond c (run_retired (run_of image before h) (live before h) (early_of (early before) head.hart head.tag) head.tag retire (doing_at image before h)) (run_of image before h)).pair ≡ Some p → Now (body.Retire retire)
       on true q f =
           let same = eqb-true head.hart h q in
           subst (λ (z : ℕ). HasLr (with_entry (entry_in image before head (body.Retire retire)) (entries image before)) z p) same
