@@ -1,13 +1,14 @@
 -- Lists of entries: one for each instruction, and no operation twice.
-use Rattle.std.proofs.Common.{ℕ, zero, suc, ◌<◌, ◌≡◌, ◌≢◌, ◌⊎◌, inl, inr, Bool, true, false, cond, List, [], ◌∷◌, ◌++◌, length, Option}
-use Rattle.std.proofs.Common.{refl, sym, ap, subst, ◌∙◌, arith}
+use Rattle.std.proofs.Common.{ℕ, zero, suc, ◌<◌, ◌≡◌, ◌≢◌, inl, inr, Bool, true, false, cond, List, [], ◌∷◌, ◌++◌}
+use Rattle.std.proofs.Common.{length, Option}
+use Rattle.std.proofs.Common.{refl, sym, ap, ◌∙◌, arith}
 use Rattle.std.specs.List.{AllPairs, flat_map}
 use Rattle.std.proofs.lemmas.Bool.{both_ways}
 use Rattle.tandem_base.specs.declared.names.Place.{Place}
 use Rattle.rvwmo_model.specs.declared.instructions.Retired.{Retired}
 use Rattle.rvwmo_model.specs.declared.operations.Op.{Op}
 use Rattle.rvwmo_model.specs.InForm.{AreRising, IsPlaced, IsOf}
-use Rattle.trace_model.specs.Groups.{Access, same_place, part_at, some_below, parts_below, parts_of}
+use Rattle.trace_model.specs.Groups.{Access, same_place, part_at, some_below, parts_below}
 use Rattle.trace_model.specs.Entries.{MemoryUse, Fixed, Stores, Entry, Places, keys_of, memory_ops, entry_ops, insns_of}
 use Rattle.trace_model.proofs.Lists.{In, Pairs, pairs_of, of_pairs, pairs_append, in_left, in_right, from_flat}
 use Rattle.trace_model.proofs.Groups.{same_self, some_there, part_from}
@@ -31,13 +32,15 @@ pub record AreEntries (es : List Entry) : Type 0 where
 abbrev Rises : Retired → Retired → Type 0
 Rises w v = v.hart ≡ w.hart → w.tag < v.tag
 
-rising_parts : (ws : List Retired) (r : Retired) → Pairs Rises (ws ++ r ∷ []) → Pairs Rises ws × ((w : Retired) → In w ws → r.hart ≡ w.hart → w.tag < r.tag)
+rising_parts : (ws : List Retired) (r : Retired) → Pairs Rises (ws ++ r ∷ []) → Pairs Rises ws
+    × ((w : Retired) → In w ws → r.hart ≡ w.hart → w.tag < r.tag)
 rising_parts [] r up = (tt, λ w i. absurd i)
 rising_parts (v ∷ ws) r up =
     let y = rising_parts ws r up.1 in
     ((λ w i. up.0 w (in_left ws (r ∷ []) w i), y.0), λ w i e. at w i e y.1)
   where
-    at : (w : Retired) → In w (v ∷ ws) → r.hart ≡ w.hart → ((w : Retired) → In w ws → r.hart ≡ w.hart → w.tag < r.tag) → w.tag < r.tag
+    at : (w : Retired) → In w (v ∷ ws) → r.hart ≡ w.hart → ((w : Retired) → In w ws → r.hart ≡ w.hart → w.tag < r.tag)
+        → w.tag < r.tag
     at w (inl s) e rec = rw s (up.0 r (in_right ws (r ∷ []) r (inl refl)) (e ∙ ap (λ (z : Retired). z.hart) s))
     at w (inr i) e rec = rec w i e
 
@@ -53,7 +56,8 @@ newest es g up =
     let y = rising_parts (insns_of es) g.insn (pairs_of Rises _ up) in
     (of_pairs Rises _ y.0, λ f i h. y.1 f.insn (insn_in es f i) h)
 
-pub entry_one : (es : List Entry) → AreRising (insns_of es) → (e f : Entry) → In e es → In f es → f.insn.hart ≡ e.insn.hart → f.insn.tag ≡ e.insn.tag → f ≡ e
+pub entry_one : (es : List Entry) → AreRising (insns_of es) → (e f : Entry) → In e es → In f es → f.insn.hart
+    ≡ e.insn.hart → f.insn.tag ≡ e.insn.tag → f ≡ e
 entry_one [] up e f i j a b = absurd i
 entry_one (g ∷ es) up e f (inl s) (inl r) a b = r ∙ sym s
 entry_one (g ∷ es) up e f (inl s) (inr j) a b =
@@ -70,7 +74,8 @@ same_store : (m : MemoryUse) (a c : Access) → m ≡ Stores a → m ≡ Stores 
 same_store m a c e f = let z : Stores c ≡ Stores a = sym f ∙ e in cc
 
 -- two plain stores of one instruction are one
-pub one_store : (es : List Entry) → AreEntries es → (e f : Entry) (a c : Access) → In e es → In f es → e.memory ≡ Stores a → f.memory ≡ Stores c → c.hart ≡ a.hart → c.tag ≡ a.tag → c ≡ a
+pub one_store : (es : List Entry) → AreEntries es → (e f : Entry) (a c : Access) → In e es → In f es → e.memory
+    ≡ Stores a → f.memory ≡ Stores c → c.hart ≡ a.hart → c.tag ≡ a.tag → c ≡ a
 one_store es good e f a c i j d g h t =
     let x = (good.each e i).named a d in
     let y = (good.each f j).named c g in
@@ -100,17 +105,20 @@ module _ (g : Places) where
   entry_once e k (Fixed ops) q = k.once ops q
   entry_once e k (Stores a) q = parts_once a (keys_of g a) a.extent.len
 
-  pub entry_own : (e : Entry) → IsEntry e → (m : MemoryUse) → e.memory ≡ m → (v : Op) → In v (memory_ops g m) → IsOf e.insn v
+  pub entry_own : (e : Entry) → IsEntry e → (m : MemoryUse) → e.memory ≡ m → (v : Op) → In v (memory_ops g m)
+      → IsOf e.insn v
   entry_own e k (Fixed ops) q v i = k.own ops v q i
   entry_own e k (Stores a) q v i =
       let y = part_from a (keys_of g a) a.extent.len v i in
       let n = k.named a q in
       (ap (λ (z : Op). z.name.hart) y.2 ∙ n.0, ap (λ (z : Op). z.name.tag) y.2 ∙ n.1)
 
-  all_once : (es : List Entry) → AreRising (insns_of es) → ((e : Entry) → In e es → IsEntry e) → Pairs (λ u v. u ≢ v) (flat_map (entry_ops g) es)
+  all_once : (es : List Entry) → AreRising (insns_of es) → ((e : Entry) → In e es → IsEntry e)
+      → Pairs (λ u v. u ≢ v) (flat_map (entry_ops g) es)
   all_once [] up each = tt
   all_once (e ∷ es) up each =
-      pairs_append (λ u v. u ≢ v) (entry_ops g e) (flat_map (entry_ops g) es) (entry_once e (each e (inl refl)) e.memory refl)
+      pairs_append (λ u v. u ≢ v) (entry_ops g e) (flat_map (entry_ops g) es)
+      (entry_once e (each e (inl refl)) e.memory refl)
       (all_once es (newest es e up).0 (λ f i. each f (inr i))) other
     where
       other : (u v : Op) → In u (entry_ops g e) → In v (flat_map (entry_ops g) es) → u ≡ v → ⊥

@@ -1,7 +1,6 @@
 -- The laws of the trace over clean lists.
-use Rattle.std.proofs.Common.{ℕ, ◌+◌, ◌<◌, ◌≤◌, ◌≡◌, ◌⊎◌, inl, inr, Bool, true, false, List, [], ◌∷◌, ◌++◌, length, Option, Some, None, refl, sym, ap, subst, ◌∙◌, arith}
-use Rattle.std.proofs.lemmas.Bool.{false≢true, both_ways}
-use Rattle.tandem_base.specs.declared.names.Place.{Place}
+use Rattle.std.proofs.Common.{◌<◌, ◌≤◌, ◌≡◌, inl, Bool, true, false, List, [], ◌∷◌, ◌++◌, length}
+use Rattle.std.proofs.Common.{Option, Some, None, refl, arith}
 use Rattle.msg_frames.specs.declared.message.OpenInfo.{OpenInfo}
 use Rattle.msg_frames.specs.declared.message.Head.{Head}
 use Rattle.msg_frames.specs.declared.message.Piece.{Piece}
@@ -9,10 +8,10 @@ use Rattle.msg_frames.specs.declared.message.Body.{Body}
 use Rattle.msg_frames.specs.declared.message.Body.TheVariants as body
 use Rattle.msg_frames.specs.declared.message.Message.{Message}
 use Rattle.elf_image.specs.Images.{Loaded}
-use Rattle.rvwmo_model.specs.declared.operations.Op.{Op}
 use Rattle.rvwmo_model.specs.declared.traces.Trace.{Trace}
 use Rattle.growth_laws.specs.Kinds.{WellKinded}
-use Rattle.growth_laws.specs.Growth.{Same, AddEarly, Performs, Growth, grow_same, grow_early, grow_insn, grow_stores, Grows, no_growth, more_growth}
+use Rattle.growth_laws.specs.Growth.{Growth, grow_same, grow_early, grow_insn, grow_stores}
+use Rattle.growth_laws.specs.Growth.{no_growth, more_growth}
 use Rattle.growth_laws.proofs.Growths.{keeps_kinded}
 use Rattle.growth_laws.proofs.Starts.{starts_well}
 use Rattle.matching.specs.Settings.{last_time}
@@ -32,7 +31,8 @@ some_is_none : {X : Type 0} {x : X} → Some x ≡ None → ⊥
 some_is_none {X} {x} e = absurd (cc)
 
 -- an Open is no later message
-no_open : (image : Loaded) (before : List Message) (head : Head) (info : OpenInfo) → IsClean image (record { head = head; body = body.Open info } ∷ before) → 0 < length before → ⊥
+no_open : (image : Loaded) (before : List Message) (head : Head) (info : OpenInfo)
+    → IsClean image (record { head = head; body = body.Open info } ∷ before) → 0 < length before → ⊥
 no_open image [] head info c l = omega (arith, l)
 no_open image (last ∷ before) head info c l = absurd (some_is_none c.2)
 
@@ -43,10 +43,12 @@ module _ (image : Loaded) (before : List Message) (head : Head) where
   abbrev new : Body → Trace
   new b = trace_of image (record { head = head; body = b } ∷ before)
 
-  grows : (b : Body) → IsClean image (record { head = head; body = b } ∷ before) → 0 < length before → growths.Grows image before head b old (new b)
+  grows : (b : Body) → IsClean image (record { head = head; body = b } ∷ before) → 0 < length before
+      → growths.Grows image before head b old (new b)
   grows b c l = let s = suited image (record { head = head; body = b } ∷ before) c in at b c s.0 s.1 s.2
     where
-      at : (b : Body) → IsClean image (record { head = head; body = b } ∷ before) → Suited image before → last_time before ≤ head.time → SuitsBody image before head b → growths.Grows image before head b old (new b)
+      at : (b : Body) → IsClean image (record { head = head; body = b } ∷ before) → Suited image before
+          → last_time before ≤ head.time → SuitsBody image before head b → growths.Grows image before head b old (new b)
       at (body.Open info) c s time t = absurd (no_open image before head info c l)
       at (body.Poke poke) c s time t = still image before s head time
       at (body.Read piece) c s time t = still image before s head time
@@ -76,7 +78,8 @@ module _ (image : Loaded) (before : List Message) (head : Head) where
   growth_of (body.Insert piece) t t' g = grow_same g
   growth_of (body.Write write) t t' g = grow_stores head.hart g.0 g.1
   growth_of (body.Bypass piece) t t' g = of_bypass piece t t' (is_early before head) g
-  growth_of (body.Retire retire) t t' g = of_retire t t' (places before) (entry_in image before head (body.Retire retire)) g
+  growth_of (body.Retire retire) t t' g = of_retire t t' (places before)
+      (entry_in image before head (body.Retire retire)) g
   growth_of body.Squash t t' g = grow_same g
   growth_of body.End t t' g = grow_same g
 
@@ -84,7 +87,8 @@ pub each_message_grows : growths.EachMessageGrows
 each_message_grows image before m c l = grows image before m.head m.body c l
 
 pub each_message_is_growth : growths.EachMessageIsGrowth
-each_message_is_growth image before m c l = growth_of image before m.head m.body _ _ (grows image before m.head m.body c l)
+each_message_is_growth image before m c l = growth_of image before m.head m.body _ _
+    (grows image before m.head m.body c l)
 
 -- ---- well kinded
 
@@ -92,7 +96,8 @@ each_message_is_growth image before m c l = growth_of image before m.head m.body
 first_kinded : (image : Loaded) (m : Message) → IsClean image (m ∷ []) → WellKinded (trace_of image (m ∷ []))
 first_kinded image m c = at m.body c
   where
-    at : (b : Body) → IsClean image (record { head = m.head; body = b } ∷ []) → WellKinded (trace_of image (record { head = m.head; body = b } ∷ []))
+    at : (b : Body) → IsClean image (record { head = m.head; body = b } ∷ [])
+        → WellKinded (trace_of image (record { head = m.head; body = b } ∷ []))
     at (body.Open info) c = (starts_well (λ x. 0) info.granule (inl c.1.2.4)).kinded
     at (body.Poke poke) c = absurd (some_is_none c.2)
     at (body.Read piece) c = absurd (some_is_none c.2)
@@ -107,12 +112,14 @@ pub lists_are_well_kinded : ListsAreWellKinded
 lists_are_well_kinded image [] c l = absurd (omega (arith, l))
 lists_are_well_kinded image (m ∷ []) c l = first_kinded image m c
 lists_are_well_kinded image (m ∷ n ∷ before) c l =
-    keeps_kinded _ _ (lists_are_well_kinded image (n ∷ before) c.0 (omega arith)) (each_message_is_growth image (n ∷ before) m c (omega arith))
+    keeps_kinded _ _ (lists_are_well_kinded image (n ∷ before) c.0 (omega arith))
+    (each_message_is_growth image (n ∷ before) m c (omega arith))
 
 pub lists_grow : ListsGrow
 lists_grow image [] before c l = no_growth (trace_of image before)
 lists_grow image (m ∷ later) before c l =
-    more_growth _ (trace_of image (later ++ before)) _ (lists_grow image later before c.0 l) (each_message_is_growth image (later ++ before) m c (some later))
+    more_growth _ (trace_of image (later ++ before)) _ (lists_grow image later before c.0 l)
+    (each_message_is_growth image (later ++ before) m c (some later))
   where
     some : (later : List Message) → 0 < length (later ++ before)
     some [] = l

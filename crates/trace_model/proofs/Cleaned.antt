@@ -1,24 +1,25 @@
 -- A list of messages without faults leaves of each message what the trace needs.
-use Rattle.std.proofs.Common.{ℕ, zero, suc, ◌+◌, ◌-◌, ◌*◌, ◌/◌, ◌%◌, ◌^◌, ◌<◌, ◌≤◌, ◌≡◌, ◌⊎◌, inl, inr, Bool, true, false}
+use Rattle.std.proofs.Common.{ℕ, zero, suc, ◌+◌, ◌-◌, ◌*◌, ◌/◌, ◌^◌, ◌<◌, ◌≤◌, ◌≡◌, ◌⊎◌, inl, inr, Bool, true}
+use Rattle.std.proofs.Common.{false}
 use Rattle.std.proofs.Common.{not, eqb, leb, ltb, ◌&&◌, ◌||◌, cond, List, [], ◌∷◌, length, is_some, Option, Some, None}
 use Rattle.std.proofs.Common.{refl, sym, ap, subst, ◌∙◌, arith}
 use Rattle.std.specs.Option.{option_or}
 use Rattle.std.proofs.lemmas.Bool.{both_ways, false≢true, and_parts, and_from, eqb-true, eq-eqb, leb-true, ltb-true}
-use Rattle.std.proofs.lemmas.Bool.{ltb-false, leb-false, lt-ltb, le-leb, not-true, not-false}
+use Rattle.std.proofs.lemmas.Bool.{ltb-false, leb-false, lt-ltb, le-leb, not-false}
 use Rattle.msg_frames.specs.declared.message.Head.{Head}
 use Rattle.msg_frames.specs.declared.message.Piece.{Piece}
 use Rattle.msg_frames.specs.declared.message.Retire.{Retire}
 use Rattle.msg_frames.specs.declared.message.Body.{Body}
 use Rattle.msg_frames.specs.declared.message.Body.TheVariants as body
 use Rattle.msg_frames.specs.declared.message.Message.{Message}
-use Rattle.msg_frames.specs.Frames.{Fits, FitsPiece, FitsBody}
+use Rattle.msg_frames.specs.Frames.{FitsPiece, FitsBody}
 use Rattle.elf_image.specs.Images.{Loaded}
 use Rattle.tandem_base.specs.FirstFault.{◌or_else◌}
 use Rattle.std.specs.List.{filter}
 use Rattle.rv_decode.specs.declared.instruction.Insn.{Insn}
 use Rattle.rv_step.specs.declared.effect.Effect.{Effect}
 use Rattle.rv_step.specs.Harts.{HartState}
-use Rattle.rv_step.specs.Plans.{PlanOf, address_of, has_bytes, is_held}
+use Rattle.rv_step.specs.Plans.{PlanOf, address_of, has_bytes}
 use Rattle.rv_step.specs.Steps as steps
 use Rattle.rv_step.specs.Steps.{Doing, trap, plain, counter, load, store, lr, sc, amo}
 use Rattle.matching.specs.declared.reports.Report.{Report}
@@ -28,8 +29,8 @@ use Rattle.matching.specs.declared.stores.Fate.TheVariants.{Nothing, Waiting, Do
 use Rattle.matching.specs.declared.stores.Stored.{Stored}
 use Rattle.matching.specs.Settings.{number_after, is_open, harts_of, last_time, config_of}
 use Rattle.matching.specs.Searches.{latest, first_below, with_new}
-use Rattle.matching.specs.Pieces.{has, line_of}
-use Rattle.matching.specs.Tags.{last_tag, is_younger, is_early}
+use Rattle.matching.specs.Pieces.{has}
+use Rattle.matching.specs.Tags.{last_tag, is_younger}
 use Rattle.matching.specs.Reports.{report_of, is_report, is_for, live_in, live, early, early_of, counting}
 use Rattle.matching.specs.Fates.{fate, is_fresh}
 use Rattle.matching.specs.Runs.{Run, outside_of, done_of, run_of, plan_at, doing_at, bypass_at, effect_at, step_at}
@@ -44,7 +45,8 @@ use Rattle.matching.specs.RetireFaults.{torn_fault_of, bypass_fault_of, is_in_pa
 use Rattle.matching.specs.RetireFaults.{rd_want_of, amo_fault_of}
 use Rattle.matching.specs.RetireFaults as rows
 use Rattle.matching.specs.Compares.{pc_fault_of, word_fault_of, trap_fault_of, next_fault_of, rd_fault_of, csr_fault_of}
-use Rattle.matching.specs.Matching.{stream_fault_of, part_fault_of, bypass_fault_at, body_fault_of, match_fault, IsClean}
+use Rattle.matching.specs.Matching.{stream_fault_of, part_fault_of, bypass_fault_at, body_fault_of}
+use Rattle.matching.specs.Matching.{IsClean}
 use Rattle.matching.specs.Matching.{retire_fault_of}
 use Rattle.trace_model.specs.Extents.{is_extent, extent_of}
 use Rattle.trace_model.specs.Groups.{Access}
@@ -57,8 +59,9 @@ use Rattle.trace_model.proofs.Fresh.{IsFresh, IsInLine}
 use Rattle.trace_model.proofs.Keys.{with_more}
 use Rattle.trace_model.proofs.Facts.{live_all}
 use Rattle.trace_model.proofs.Plans.{IsPlanned, planned, IsPieceOf, store_piece}
-use Rattle.trace_model.proofs.Suits.{IsKnown, SuitsInsert, SuitsPlain, SuitsEarly, HasNone, IsCounted, IsOneRead, IsOver}
-use Rattle.trace_model.proofs.Suits.{SuitsLoad, SuitsLr, SuitsStore, HasOver, IsInPair, SuitsSc, SuitsDoing, SuitsRetire}
+use Rattle.trace_model.proofs.Suits.{IsKnown, SuitsInsert, SuitsEarly, HasNone, IsCounted, IsOneRead}
+use Rattle.trace_model.proofs.Suits.{HasOver, IsInPair, SuitsSc, SuitsDoing}
+use Rattle.trace_model.proofs.Suits.{SuitsRetire}
 use Rattle.trace_model.proofs.Suits.{SuitsBody, Suited}
 
 -- ---- several tests
@@ -138,7 +141,8 @@ is_there (Some x) e = (x, refl)
 timed : (before : List Message) (m : Message) → stream_fault_of before m ≡ None → last_time before ≤ m.head.time
 timed [] m e = omega arith
 timed (last ∷ before) m e = ltb-false m.head.time last.head.time
-    (third_failed (is_open m.body) (ltb m.head.hart (harts_of (last ∷ before))) (ltb m.head.time last.head.time) _ _ _ e)
+    (third_failed (is_open m.body) (ltb m.head.hart (harts_of (last ∷ before))) (ltb m.head.time last.head.time) _ _ _
+    e)
 
 -- ---- each plain store that retired has its entry
 
@@ -176,7 +180,8 @@ StoresPiece (lr insn addr len) o = Unit {0}
 StoresPiece (sc insn addr len) o = Unit {0}
 StoresPiece (amo insn addr len) o = Unit {0}
 
-module _ (rs bs : List Report) (head : Head) (put : List ℕ) (o : Option Piece) (es : List Entry) (old : List Stored) (s : Stored)
+module _ (rs bs : List Report) (head : Head) (put : List ℕ) (o : Option Piece) (es : List Entry) (old : List Stored)
+    (s : Stored)
     (rec : In s old → HasEntry es head.hart s) where
   abbrev Has : Doing → Type 0
   Has d = StoresPiece d o → In s (with_new (new_store d head.tag o) old)
@@ -220,7 +225,8 @@ module _ (image : Loaded) (before : List Message) (head : Head) (retire : Retire
 
   -- what is done by a plan
   abbrev done_with : Doing → steps.Done
-  done_with d = done_of (run_of image before head.hart) (live before head.hart) (bypass_at before head) head.tag retire d
+  done_with d = done_of (run_of image before head.hart) (live before head.hart) (bypass_at before head) head.tag retire
+      d
 
   planned_at : IsPlanned (run_of image before head.hart).hart (doing_at image before head.hart)
   planned_at = planned (run_of image before head.hart).hart image (config_of before)
@@ -237,11 +243,16 @@ module _ (image : Loaded) (before : List Message) (head : Head) (retire : Retire
       at (lr insn addr len) q p = tt
       at (sc insn addr len) q p = tt
       at (amo insn addr len) q p = tt
-      at (store insn addr len) q p = (p.0.1, subst (λ (d : Doing). IsPieceOf (done_with d).effect.store addr len) (sym q)
-          (subst (λ (n : ℕ). IsPieceOf (done_with (store insn addr len)).effect.store n len) (sym p.1)
-          (subst (λ (n : ℕ). IsPieceOf (done_with (store insn addr len)).effect.store (address_of hart insn) n) (sym p.2)
-          (store_piece hart (outside_of (live before head.hart) (bypass_at before head) head.tag retire (store insn addr len))
-          insn p.0.0))))
+      at (store insn addr len) q p = (
+        p.0.1,
+        subst (λ (d : Doing). IsPieceOf (done_with d).effect.store addr len) (sym q)
+            (subst (λ (n : ℕ). IsPieceOf (done_with (store insn addr len)).effect.store n len) (sym p.1)
+            (subst (λ (n : ℕ). IsPieceOf (done_with (store insn addr len)).effect.store (address_of hart insn) n)
+            (sym p.2)
+            (store_piece hart (outside_of (live before head.hart) (bypass_at before head) head.tag retire
+            (store insn addr len))
+            insn p.0.0))),
+      )
 
   has_new : (s : Stored) → (In s (stores image before head.hart) → HasEntry (entries image before) head.hart s)
       → In s (with_new (new_store (doing_at image before head.hart) head.tag (effect_at image before head retire).store)
@@ -264,9 +275,9 @@ has_now image before head (body.Retire retire) h s rec i = at (eqb head.hart h) 
     at false q i = entry_more (entry_in image before head (body.Retire retire)) (entries image before) h s (rec i)
     at true q i = subst
         (λ (z : ℕ). (In s (stores image before z) → HasEntry (entries image before) z s)
-          → In s (with_new (new_store (doing_at image before z) head.tag
-          (step_at image before z head retire).effect.store) (stores image before z))
-          → HasEntry (with_entry (entry_in image before head (body.Retire retire)) (entries image before)) z s)
+        → In s (with_new (new_store (doing_at image before z) head.tag
+        (step_at image before z head retire).effect.store) (stores image before z))
+        → HasEntry (with_entry (entry_in image before head (body.Retire retire)) (entries image before)) z s)
         (eqb-true head.hart h q) (has_new image before head retire s) rec i
 has_now image before head b h s rec i = entry_more (entry_in image before head b) (entries image before) h s (rec i)
 
@@ -409,7 +420,8 @@ suits_early : (image : Loaded) (before : List Message) (head : Head) (piece : Pi
     → SuitsEarly before head piece
 suits_early image before head piece fits there e = record {
   sized = and_from _ _ (and_from _ _ (le-leb 1 (length piece.bytes) fits.0) (le-leb (length piece.bytes) 8 fits.1))
-      (and_parts (leb (piece.addr + length piece.bytes) (2 ^ 64)) (has_bytes image piece.addr (length piece.bytes)) there).0;
+      (and_parts (leb (piece.addr + length piece.bytes) (2 ^ 64)) (has_bytes image piece.addr (length piece.bytes))
+      there).0;
   first = none_latest (is_report head.hart head.tag) (early before) (none (bypass_at before head) e);
 }
   where
@@ -422,11 +434,12 @@ suits_bypass : (image : Loaded) (before : List Message) (head : Head) (piece : P
 suits_bypass image before head piece fits e =
     let p = both_none (bypass_range_fault image piece) (bypass_fault_at image before head piece) e in (
       (λ young. suits_early image before head piece fits (range_is _ p.0) (subst (λ (b : Bool). cond b
-        (second_bypass_fault head.tag (bypass_at before head)) (part_fault_of image before head piece) ≡ None) young p.1)),
+          (second_bypass_fault head.tag (bypass_at before head)) (part_fault_of image before head piece) ≡ None) young
+          p.1)),
       λ plain.
           let o = part_of_one (fate_at before head.hart) piece (store_under head.tag (stores image before head.hart))
           (subst (λ (b : Bool). cond b (second_bypass_fault head.tag (bypass_at before head))
-            (part_fault_of image before head piece) ≡ None) plain p.1) in
+          (part_fault_of image before head piece) ≡ None) plain p.1) in
           record {
             fresh = fresh_bytes image before head piece o;
             known = known_bytes image before head piece o fits;
@@ -448,7 +461,8 @@ none_stray : (d : Doing) (h t : ℕ) (rs : List Report) → lowest_stray d h t r
 none_stray d h t [] e r i = absurd i
 none_stray d h t (s ∷ rs) e r i = at (is_stray d h t s) refl e i (none_stray d h t rs)
   where
-    at : (b : Bool) → is_stray d h t s ≡ b → cond b (Some (lower s.tag (lowest_stray d h t rs))) (lowest_stray d h t rs) ≡ None → In r (s ∷ rs)
+    at : (b : Bool) → is_stray d h t s ≡ b → cond b (Some (lower s.tag (lowest_stray d h t rs))) (lowest_stray d h t rs)
+        ≡ None → In r (s ∷ rs)
         → (lowest_stray d h t rs ≡ None → (r : Report) → In r rs → is_stray d h t r ≡ false) → is_stray d h t r ≡ false
     at true q e i rec = absurd (cc)
     at false q e (inl f) rec = subst (λ (z : Report). is_stray d h t z ≡ false) (sym f) q
@@ -476,7 +490,8 @@ module _ (d : Doing) (head : Head) (early : List Report)
 
       at : (b c : Bool) → (eqb r.hart head.hart && (b || (eqb r.tag head.tag && not c))) ≡ false → c ≡ true
       at b true f = refl
-      at true false f = absurd (both_ways (eqb r.hart head.hart && true) f (and_from (eqb r.hart head.hart) true own.0 refl))
+      at true false f = absurd (both_ways (eqb r.hart head.hart && true) f
+          (and_from (eqb r.hart head.hart) true own.0 refl))
       at false false f = absurd (both_ways (eqb r.hart head.hart && (eqb r.tag head.tag && true)) f
           (and_from (eqb r.hart head.hart) _ own.0 (and_from (eqb r.tag head.tag) true own.1 refl)))
 
@@ -529,7 +544,8 @@ one_now before head (body.Read piece) h a c rec i j e = at (eqb head.hart h) i j
     new : Report
     new = report_of (number_after before) head piece
 
-    at : (d : Bool) → In a (cond d (new ∷ live before h) (live before h)) → In c (cond d (new ∷ live before h) (live before h))
+    at : (d : Bool) → In a (cond d (new ∷ live before h) (live before h))
+        → In c (cond d (new ∷ live before h) (live before h))
         → a ≡ c
     at false i j = rec i j e
     at true (inl f) (inl g) = f ∙ sym g
@@ -591,12 +607,13 @@ one_read before h t addr len e k l =
 -- ---- the whole
 
 -- what the faults of a Retire leave, row by row
-pub record NoFaults (run : Run) (rs bs : List Report) (head : Head) (plan : PlanOf) (bypass : Option Report) : Type 0 where
-  pub stray : stray_fault_of (lowest_stray plan.doing head.hart head.tag bs) ≡ None
-  pub missing : missing_fault_of rs head.tag plan.doing ≡ None
-  pub torn : torn_fault_of rs head.tag plan.doing ≡ None
-  pub bypassed : bypass_fault_of bypass plan.doing ≡ None
-  pub paired : pair_fault_of run.pair (is_some bypass) plan.doing ≡ None
+pub record NoFaults (run : Run) (rs bs : List Report) (head : Head) (plan : PlanOf) (bypass : Option Report) : Type 0
+  where
+    pub stray : stray_fault_of (lowest_stray plan.doing head.hart head.tag bs) ≡ None
+    pub missing : missing_fault_of rs head.tag plan.doing ≡ None
+    pub torn : torn_fault_of rs head.tag plan.doing ≡ None
+    pub bypassed : bypass_fault_of bypass plan.doing ≡ None
+    pub paired : pair_fault_of run.pair (is_some bypass) plan.doing ≡ None
 
 no_faults : (run : Run) (rs bs : List Report) (head : Head) (retire : Retire) (plan : PlanOf) (effect : Effect)
     (bypass : Option Report) → retire_fault_in run rs bs head retire plan effect bypass ≡ None
@@ -635,13 +652,15 @@ module _ (image : Loaded) (before : List Message) (head : Head) (retire : Retire
 
   -- the rows of the Retire, were this to be done
   abbrev Rows : Doing → Type 0
-  Rows d = NoFaults run rs bs head (record { word = (plan_at image before head.hart).word; doing = d }) (bypass_at before head)
+  Rows d = NoFaults run rs bs head (record { word = (plan_at image before head.hart).word; doing = d })
+      (bypass_at before head)
 
   none_of : (d : Doing) → Rows d → (r : Report) → In r bs → is_stray d head.hart head.tag r ≡ false
   none_of d f = none_stray d head.hart head.tag bs (stray_none _ f.stray)
 
   bypass_there : (d : Doing) → rows.is_amo d ≡ true → Rows d → (r : Report) × (bypass_at before head ≡ Some r)
-  bypass_there d own f = is_there (bypass_at before head) (at (rows.is_amo d) (not (is_some (bypass_at before head))) own
+  bypass_there d own f = is_there (bypass_at before head)
+      (at (rows.is_amo d) (not (is_some (bypass_at before head))) own
       (failed_if (rows.is_amo d && not (is_some (bypass_at before head))) _ f.bypassed))
     where
       at : (a b : Bool) → a ≡ true → (a && b) ≡ false → b ≡ false

@@ -16,8 +16,8 @@ use Rattle.matching.specs.Settings.{number_after}
 use Rattle.matching.specs.Pieces.{has, line_of}
 use Rattle.matching.specs.Tags.{is_of, is_early}
 use Rattle.matching.specs.Fates.{drained, fate_in, fate}
-use Rattle.trace_model.specs.FirstWrites.{IsMessage, IsInsert, IsPlainBypass, IsWrite, NoWriteAfter, IsFirstWrite}
-use Rattle.trace_model.specs.FirstWrites.{IsPerformed, IsFate}
+use Rattle.trace_model.specs.FirstWrites.{IsMessage, IsInsert, IsPlainBypass, IsWrite, IsFirstWrite}
+use Rattle.trace_model.specs.FirstWrites.{IsFate}
 use Rattle.trace_model.proofs.Fresh.{IsFreshAt, AreFresh}
 
 -- ---- which message a number stands for
@@ -31,7 +31,12 @@ message_new older head b = record { later = []; whole = refl; number = refl }
 
 pub message_on : (n : Message) (messages : List Message) (k : ℕ) (older : List Message) (head : Head) (b : Body)
     → IsMessage messages k older head b → IsMessage (n ∷ messages) k older head b
-message_on n messages k older head b m = record { later = n ∷ m.later; whole = ap (λ ms. n ∷ ms) m.whole; number = m.number }
+message_on n messages k older head b m = record {
+  later = n ∷ m.later;
+  whole = ap (λ ms. n ∷ ms) m.whole;
+  number =
+      m.number;
+}
 
 pub message_none : (k : ℕ) (older : List Message) (head : Head) (b : Body) → IsMessage [] k older head b → ⊥
 message_none k older head b m = at m.later m.whole
@@ -44,7 +49,7 @@ message_at_most : (messages : List Message) (k : ℕ) (older : List Message) (he
     → IsMessage messages k older head b → k ≤ length messages
 message_at_most messages k older head b m =
     let e : length messages ≡ length m.later + length (message head b ∷ older) =
-        ap length m.whole ∙ length-append m.later (message head b ∷ older) in
+    ap length m.whole ∙ length-append m.later (message head b ∷ older) in
     let n = m.number in
     omega (arith, e, n)
 
@@ -62,7 +67,11 @@ message_cases n messages k older head b m = at m.later m.whole
     at [] e =
         let s : messages ≡ older = cc in
         inl ((let f : n ≡ message head b = cc in f), s, m.number ∙ ap number_after (sym s))
-    at (l ∷ ls) e = inr (record { later = ls; whole = (let s : messages ≡ ls ++ message head b ∷ older = cc in s); number = m.number })
+    at (l ∷ ls) e = inr (record {
+      later = ls;
+      whole = (let s : messages ≡ ls ++ message head b ∷ older = cc in s);
+      number = m.number;
+    })
 
 -- the earlier of two messages stands before the later
 pub message_in : (later : List Message) (k : ℕ) (older : List Message) (head : Head) (b : Body) (n : ℕ)
@@ -77,7 +86,7 @@ message_in (y ∷ ys) k older head b n past h c e m l =
       | inl q ↦
           let s = q.2 in
           let t : length (ys ++ message h c ∷ past) ≡ length ys + (1 + length past) =
-              length-append ys (message h c ∷ past) ∙ (omega arith) in
+          length-append ys (message h c ∷ past) ∙ (omega arith) in
           absurd (omega (arith, s, t, l, e))
       | inr i ↦ message_in ys k older head b n past h c e i l
     ]
@@ -95,7 +104,7 @@ message_one (y ∷ ys) k older head b past h c e m =
       | inl q ↦
           let s = q.2 in
           let t : length (ys ++ message h c ∷ past) ≡ length ys + (1 + length past) =
-              length-append ys (message h c ∷ past) ∙ (omega arith) in
+          length-append ys (message h c ∷ past) ∙ (omega arith) in
           absurd (omega (arith, s, t, e))
       | inr i ↦ message_one ys k older head b past h c e i
     ]
@@ -114,7 +123,8 @@ module _ (before : List Message) (head : Head) (b : Body) where
     byte = i.byte;
   }
 
-  bypass_on : (h t x k time : ℕ) → IsPlainBypass before h t x k time → IsPlainBypass (message head b ∷ before) h t x k time
+  bypass_on : (h t x k time : ℕ) → IsPlainBypass before h t x k time → IsPlainBypass (message head b ∷ before) h t x k
+      time
   bypass_on h t x k time i = record {
     older = i.older;
     head = i.head;
@@ -159,7 +169,15 @@ module _ (before : List Message) (head : Head) (b : Body) where
           subst (λ (z : Head). is_of z h t ≡ true) (sym (ap (λ (z : Message). z.head) q.0)) i.of,
           i.byte,
         )
-        | inr m ↦ inr (record { older = i.older; head = i.head; piece = i.piece; message = m; of = i.of; byte = i.byte })
+        | inr m ↦ inr (record {
+          older = i.older;
+          head = i.head;
+          piece = i.piece;
+          message = m;
+          of = i.of;
+          byte =
+              i.byte;
+        })
       ]
 
   bypass_cases : (h t x k time : ℕ) → IsPlainBypass (message head b ∷ before) h t x k time
@@ -282,9 +300,9 @@ module _ (before : List Message) (head : Head) (h t x : ℕ) where
       )
       at false e = kept (body.Insert piece) (fate before h t x)
           (λ i. let c : body.Insert piece ≡ body.Insert i.0 = i.1 in
-            let s : piece ≡ i.0 = cc in
-            both_ways (is_of head h t && has piece x) e
-            (and_from _ _ i.2 (subst (λ (z : Piece). has z x ≡ true) (sym s) i.3)))
+          let s : piece ≡ i.0 = cc in
+          both_ways (is_of head h t && has piece x) e
+          (and_from _ _ i.2 (subst (λ (z : Piece). has z x ≡ true) (sym s) i.3)))
           (λ i. let c : body.Insert piece ≡ body.Bypass i.0 = i.1 in absurd (cc))
           (λ i. let c : body.Insert piece ≡ body.Write i.0 = i.1 in absurd (cc)) old
 
@@ -319,16 +337,17 @@ module _ (before : List Message) (head : Head) (h t x : ℕ) where
   write_told write old = at (eqb head.hart h && eqb write.line (line_of x)) refl
     where
       at : (c : Bool) → (eqb head.hart h && eqb write.line (line_of x)) ≡ c
-          → Now (body.Write write) (cond c (drained head.time (number_after before) (fate before h t x)) (fate before h t x))
+          → Now (body.Write write) (cond c (drained head.time (number_after before) (fate before h t x))
+          (fate before h t x))
       at true e = let p = and_parts (eqb head.hart h) (eqb write.line (line_of x)) e in
           drained_told write (eqb-true _ _ p.0) (eqb-true _ _ p.1) (fate before h t x) old
       at false e = kept (body.Write write) (fate before h t x)
           (λ i. let c : body.Write write ≡ body.Insert i.0 = i.1 in absurd (cc))
           (λ i. let c : body.Write write ≡ body.Bypass i.0 = i.1 in absurd (cc))
           (λ i. let c : body.Write write ≡ body.Write i.0 = i.1 in
-            let s : write ≡ i.0 = cc in
-            both_ways (eqb head.hart h && eqb write.line (line_of x)) e
-            (and_from _ _ (eq-eqb _ _ i.2) (eq-eqb _ _ (ap (λ (z : LineWrite). z.line) s ∙ i.3)))) old
+          let s : write ≡ i.0 = cc in
+          both_ways (eqb head.hart h && eqb write.line (line_of x)) e
+          (and_from _ _ (eq-eqb _ _ i.2) (eq-eqb _ _ (ap (λ (z : LineWrite). z.line) s ∙ i.3)))) old
 
   bypass_kept : (piece : Piece) (f : Fate) → (Bypasses before head (body.Bypass piece) h t x → ⊥)
       → IsFate before h t x f → Now (body.Bypass piece) f
@@ -360,9 +379,9 @@ module _ (before : List Message) (head : Head) (h t x : ℕ) where
       )
       at false e false f = bypass_kept piece (fate before h t x)
           (λ i. let c : body.Bypass piece ≡ body.Bypass i.0 = i.1 in
-            let s : piece ≡ i.0 = cc in
-            both_ways (is_of head h t && has piece x) f
-            (and_from _ _ i.2 (subst (λ (z : Piece). has z x ≡ true) (sym s) i.3))) old
+          let s : piece ≡ i.0 = cc in
+          both_ways (is_of head h t && has piece x) f
+          (and_from _ _ i.2 (subst (λ (z : Piece). has z x ≡ true) (sym s) i.3))) old
 
   other_told : (b : Body) → ((piece : Piece) → b ≡ body.Insert piece → ⊥)
       → ((piece : Piece) → b ≡ body.Bypass piece → ⊥) → ((write : LineWrite) → b ≡ body.Write write → ⊥)
@@ -370,13 +389,17 @@ module _ (before : List Message) (head : Head) (h t x : ℕ) where
   other_told b no_insert no_bypass no_write old =
       kept b (fate before h t x) (λ i. no_insert i.0 i.1) (λ i. no_bypass i.0 i.1) (λ i. no_write i.0 i.1) old
 
-  now_told : (b : Body) → IsFate before h t x (fate before h t x) → Now b (fate_in before (fate before h t x) head b h t x)
+  now_told : (b : Body) → IsFate before h t x (fate before h t x)
+      → Now b (fate_in before (fate before h t x) head b h t x)
   now_told (body.Insert piece) old = insert_told piece old
   now_told (body.Write write) old = write_told write old
   now_told (body.Bypass piece) old = bypass_told piece old
-  now_told (body.Open info) old = other_told (body.Open info) (λ p e. absurd (cc)) (λ p e. absurd (cc)) (λ p e. absurd (cc)) old
-  now_told (body.Poke poke) old = other_told (body.Poke poke) (λ p e. absurd (cc)) (λ p e. absurd (cc)) (λ p e. absurd (cc)) old
-  now_told (body.Read piece) old = other_told (body.Read piece) (λ p e. absurd (cc)) (λ p e. absurd (cc)) (λ p e. absurd (cc)) old
+  now_told (body.Open info) old = other_told (body.Open info) (λ p e. absurd (cc)) (λ p e. absurd (cc))
+      (λ p e. absurd (cc)) old
+  now_told (body.Poke poke) old = other_told (body.Poke poke) (λ p e. absurd (cc)) (λ p e. absurd (cc))
+      (λ p e. absurd (cc)) old
+  now_told (body.Read piece) old = other_told (body.Read piece) (λ p e. absurd (cc)) (λ p e. absurd (cc))
+      (λ p e. absurd (cc)) old
   now_told (body.Retire retire) old =
       other_told (body.Retire retire) (λ p e. absurd (cc)) (λ p e. absurd (cc)) (λ p e. absurd (cc)) old
   now_told body.Squash old = other_told body.Squash (λ p e. absurd (cc)) (λ p e. absurd (cc)) (λ p e. absurd (cc)) old
@@ -412,11 +435,13 @@ module _ (messages : List Message) (fresh : AreFresh messages) (h t x : ℕ) whe
 
   insert_nothing : (k : ℕ) (i : IsInsert messages h t x k) → IsFate i.older h t x Nothing
   insert_nothing k i = nothing_before i.older (own i.older i.head i.of
-      ((fresh_at i.message.later i.older i.head (body.Insert i.piece) (subst AreFresh i.message.whole fresh)).0 x i.byte))
+      ((fresh_at i.message.later i.older i.head (body.Insert i.piece) (subst AreFresh i.message.whole fresh)).0 x
+      i.byte))
 
   bypass_nothing : (k time : ℕ) (i : IsPlainBypass messages h t x k time) → IsFate i.older h t x Nothing
   bypass_nothing k time i = nothing_before i.older (own i.older i.head i.of
-      (fresh_at i.message.later i.older i.head (body.Bypass i.piece) (subst AreFresh i.message.whole fresh) i.plain x i.byte))
+      (fresh_at i.message.later i.older i.head (body.Bypass i.piece) (subst AreFresh i.message.whole fresh) i.plain x
+      i.byte))
 
   insert_in : (j k : ℕ) (older : List Message) (head : Head) (b : Body) → IsInsert messages h t x j
       → IsMessage messages k older head b → j < k → IsInsert older h t x j
@@ -462,9 +487,9 @@ module _ (messages : List Message) (fresh : AreFresh messages) (h t x : ℕ) whe
   not_both j k time i n = elim (cases_order j k) [
     | inl e ↦
         let m : IsMessage messages k i.older i.head (body.Insert i.piece) =
-            subst (λ (z : ℕ). IsMessage messages z i.older i.head (body.Insert i.piece)) e i.message in
+        subst (λ (z : ℕ). IsMessage messages z i.older i.head (body.Insert i.piece)) e i.message in
         let s : body.Insert i.piece ≡ body.Bypass n.piece =
-            (same_message k i.older n.older i.head n.head (body.Insert i.piece) (body.Bypass n.piece) m n.message).1 in
+        (same_message k i.older n.older i.head n.head (body.Insert i.piece) (body.Bypass n.piece) m n.message).1 in
         absurd (cc)
     | inr o ↦ elim o [
       | inl l ↦ (bypass_nothing k time n).0 j (insert_in j k n.older n.head (body.Bypass n.piece) i n.message l)
@@ -481,7 +506,7 @@ module _ (messages : List Message) (fresh : AreFresh messages) (h t x : ℕ) whe
   one_bypass j s k time i n = elim (cases_order j k) [
     | inl e ↦
         let m : IsMessage messages k i.older i.head (body.Bypass i.piece) =
-            subst (λ (z : ℕ). IsMessage messages z i.older i.head (body.Bypass i.piece)) e i.message in (
+        subst (λ (z : ℕ). IsMessage messages z i.older i.head (body.Bypass i.piece)) e i.message in (
           e,
           sym i.timed ∙ ap (λ (z : Head). z.time)
               (same_message k i.older n.older i.head n.head (body.Bypass i.piece) (body.Bypass n.piece) m n.message).0
@@ -495,8 +520,8 @@ module _ (messages : List Message) (fresh : AreFresh messages) (h t x : ℕ) whe
   one_write l j k s i time v w = elim (cases_order k i) [
     | inl e ↦
         let m : IsMessage messages i v.write.older v.write.head (body.Write v.write.write) =
-            subst (λ (z : ℕ). IsMessage messages z v.write.older v.write.head (body.Write v.write.write)) e
-            v.write.message in (
+        subst (λ (z : ℕ). IsMessage messages z v.write.older v.write.head (body.Write v.write.write)) e
+        v.write.message in (
           e,
           sym v.write.timed ∙ ap (λ (z : Head). z.time)
               (same_message i v.write.older w.write.older v.write.head w.write.head (body.Write v.write.write)
@@ -519,7 +544,7 @@ module _ (messages : List Message) (fresh : AreFresh messages) (h t x : ℕ) whe
   one_place p q (inl a) (inl b) =
       let e = one_insert p.insert q.insert a.0 b.0 in
       let w = one_write (line_of x) p.insert p.message p.time q.message q.time a.1
-          (subst (λ (z : ℕ). IsFirstWrite messages h (line_of x) z q.message q.time) (sym e) b.1) in
+      (subst (λ (z : ℕ). IsFirstWrite messages h (line_of x) z q.message q.time) (sym e) b.1) in
       λ i. record { time = w.1 i; message = w.0 i; insert = e i }
   one_place p q (inl a) (inr b) = absurd (not_both p.insert q.message q.time a.0 b.0)
   one_place p q (inr a) (inl b) = absurd (not_both q.insert p.message p.time b.0 a.0)

@@ -1,5 +1,6 @@
 -- The operations of an access group its bytes by place.
-use Rattle.std.proofs.Common.{ℕ, zero, suc, ◌+◌, ◌-◌, ◌^◌, ◌<◌, ◌≡◌, ◌≢◌, Bool, true, false, cond, List, [], ◌∷◌, Option}
+use Rattle.std.proofs.Common.{ℕ, zero, suc, ◌+◌, ◌-◌, ◌^◌, ◌<◌, ◌≡◌, ◌≢◌, Bool, true, false, cond, List, [], ◌∷◌}
+use Rattle.std.proofs.Common.{Option}
 use Rattle.std.proofs.Common.{inl, inr, refl, sym, ap, subst, ◌∙◌, arith}
 use Rattle.std.specs.List.{Contains}
 use Rattle.std.proofs.lemmas.Bool.{both_ways}
@@ -8,7 +9,8 @@ use Rattle.tandem_base.specs.declared.names.Place.{Place}
 use Rattle.rvwmo_model.specs.declared.operations.Op.{Op}
 use Rattle.rvwmo_model.specs.Order.{has_byte}
 use Rattle.growth_laws.specs.Kinds.{IsNamed}
-use Rattle.trace_model.specs.Groups.{Access, mask_from, first_from, same_place, part_at, some_below, parts_below, parts_of}
+use Rattle.trace_model.specs.Groups.{Access, first_from, same_place, part_at, some_below, parts_below}
+use Rattle.trace_model.specs.Groups.{parts_of}
 use Rattle.trace_model.specs.GroupLaws.{AreGroups, OperationsAreGroups}
 use Rattle.trace_model.proofs.Lists.{In, Pairs, of_pairs, listed, contained}
 use Rattle.trace_model.proofs.Groups.{same_is, same_self, some_there, part_in, part_from, covers_from, covers_parts}

@@ -1,6 +1,8 @@
 -- Groups of bytes.
-use Rattle.std.proofs.Common.{ℕ, zero, suc, ◌+◌, ◌-◌, ◌*◌, ◌/◌, ◌%◌, ◌^◌, ◌<◌, ◌≤◌, ◌≡◌, inl, inr, Bool, true, false, eqb, leb, ltb, ◌||◌, ◌&&◌, cond, List, [], ◌∷◌, length, slice_index, Option, Some, None, refl, sym, ap, subst, ◌∙◌, arith, pow-suc}
-use Rattle.std.proofs.lemmas.Bool.{false≢true, both_ways, and_parts, and_from, or_cases, eqb-true, eq-eqb, leb-true, ltb-true, le-leb, lt-ltb}
+use Rattle.std.proofs.Common.{ℕ, zero, suc, ◌+◌, ◌-◌, ◌*◌, ◌/◌, ◌%◌, ◌^◌, ◌<◌, ◌≤◌, ◌≡◌, inl, inr, Bool, true, false}
+use Rattle.std.proofs.Common.{eqb, ◌||◌, ◌&&◌, cond, List, [], ◌∷◌, length, slice_index, Option, Some, None}
+use Rattle.std.proofs.Common.{refl, sym, ap, subst, ◌∙◌, arith, pow-suc}
+use Rattle.std.proofs.lemmas.Bool.{false≢true, both_ways, and_parts, and_from, or_cases, eqb-true, eq-eqb}
 use Rattle.std.proofs.lemmas.Bool.Decides.{nat_tests}
 use Rattle.std.proofs.lemmas.Nat.Bits.{bit_at_lowest, bit_at-suc}
 use Rattle.std.specs.Int.{bit_at}
@@ -12,7 +14,8 @@ use Rattle.tandem_base.specs.Extents.{is_among}
 use Rattle.rvwmo_model.proofs.Extents.{bounds_of, from_bounds}
 use Rattle.rvwmo_model.specs.InForm.{IsWhole}
 use Rattle.growth_laws.specs.Kinds.{IsNamed}
-use Rattle.trace_model.specs.Groups.{Access, mask_from, first_from, masked_from, op_of, same_place, part_at, some_below, parts_below}
+use Rattle.trace_model.specs.Groups.{Access, mask_from, first_from, masked_from, op_of, same_place, part_at, some_below}
+use Rattle.trace_model.specs.Groups.{parts_below}
 
 pub fun_ext : {X Y : Type 0} (f g : X → Y) → ((x : X) → f x ≡ g x) → f ≡ g
 fun_ext f g h = λ i x. h x i
@@ -30,7 +33,8 @@ same_is (Some p) (Some q) e =
 
 pub same_self : (a : Option Place) → same_place a a ≡ true
 same_self None = refl
-same_self (Some p) = and_from _ _ (and_from _ _ (eq-eqb p.time p.time refl) (eq-eqb p.message p.message refl)) (eq-eqb p.insert p.insert refl)
+same_self (Some p) = and_from _ _ (and_from _ _ (eq-eqb p.time p.time refl) (eq-eqb p.message p.message refl))
+    (eq-eqb p.insert p.insert refl)
 
 -- ---- masks
 
@@ -39,12 +43,14 @@ step_on k i = omega arith
 
 pub mask_bit : (p : ℕ → Bool) (k n i : ℕ) → i < n → bit_at (mask_from p k n) i ≡ cond (p (k + i)) 1 0
 mask_bit p k zero i l = absurd (omega (arith, l))
-mask_bit p k (suc n) zero l = bit_at_lowest (mask_from p k (suc n)) ∙ at (p k) ∙ ap (λ j. cond (p j) 1 0) (let e : k ≡ k + 0 = omega arith in e)
+mask_bit p k (suc n) zero l = bit_at_lowest (mask_from p k (suc n)) ∙ at (p k) ∙ ap (λ j. cond (p j) 1 0)
+    (let e : k ≡ k + 0 = omega arith in e)
   where
     at : (b : Bool) → (cond b 1 0 + 2 * mask_from p (suc k) n) % 2 ≡ cond b 1 0
     at true = omega arith
     at false = omega arith
-mask_bit p k (suc n) (suc i) l = bit_at-suc (mask_from p k (suc n)) i ∙ ap (λ m. bit_at m i) (at (p k)) ∙ mask_bit p (suc k) n i (omega (arith, l)) ∙ ap (λ j. cond (p j) 1 0) (sym (step_on k i))
+mask_bit p k (suc n) (suc i) l = bit_at-suc (mask_from p k (suc n)) i ∙ ap (λ m. bit_at m i) (at (p k))
+    ∙ mask_bit p (suc k) n i (omega (arith, l)) ∙ ap (λ j. cond (p j) 1 0) (sym (step_on k i))
   where
     at : (b : Bool) → (cond b 1 0 + 2 * mask_from p (suc k) n) / 2 ≡ mask_from p (suc k) n
     at true = omega arith
@@ -61,7 +67,8 @@ mask_within p k (suc n) = at (p k) (mask_within p (suc k) n)
 pub mask_some : (p : ℕ → Bool) (k n i : ℕ) → i < n → p (k + i) ≡ true → 0 < mask_from p k n
 mask_some p k zero i l e = absurd (omega (arith, l))
 mask_some p k (suc n) zero l e = rw (subst (λ j. p j ≡ true) (let e : k + 0 ≡ k = omega arith in e) e) (omega arith)
-mask_some p k (suc n) (suc i) l e = let m : 0 < mask_from p (suc k) n = mask_some p (suc k) n i (omega (arith, l)) (subst (λ j. p j ≡ true) (step_on k i) e) in omega (arith, m)
+mask_some p k (suc n) (suc i) l e = let m : 0 < mask_from p (suc k) n =
+    mask_some p (suc k) n i (omega (arith, l)) (subst (λ j. p j ≡ true) (step_on k i) e) in omega (arith, m)
 
 -- ---- the first
 
@@ -80,7 +87,9 @@ first_is p k (suc n) i l e = at (p k) refl i l e (λ i. first_is p (suc k) n i)
     above d j m q true f = absurd (both_ways _ d (subst (λ z. p z ≡ true) (sym (eqb-true k j f)) q))
     above d j m q false f = grind (arith, nat_tests)
 
-    at : (b : Bool) → p k ≡ b → (i : ℕ) → i < suc n → p (k + i) ≡ true → ((i : ℕ) → i < n → p (suc k + i) ≡ true → IsFirst p (suc k) (suc k + n) (first_from p (suc k) n)) → IsFirst p k (k + suc n) (cond b k (first_from p (suc k) n))
+    at : (b : Bool) → p k ≡ b → (i : ℕ) → i < suc n → p (k + i) ≡ true
+        → ((i : ℕ) → i < n → p (suc k + i) ≡ true → IsFirst p (suc k) (suc k + n) (first_from p (suc k) n))
+        → IsFirst p k (k + suc n) (cond b k (first_from p (suc k) n))
     at true d i l e rec = record { passes = d; after = omega arith; before = omega arith; least = λ j m q. m }
     at false d zero l e rec = absurd (both_ways _ d (subst (λ j. p j ≡ true) (let e : k + 0 ≡ k = omega arith in e) e))
     at false d (suc i) l e rec =
@@ -98,7 +107,8 @@ pub masked_length : (p : ℕ → Bool) (k : ℕ) (bs : List ℕ) → length (mas
 masked_length p k [] = refl
 masked_length p k (b ∷ bs) = ap suc (masked_length p (suc k) bs)
 
-pub masked_byte : (p : ℕ → Bool) (k : ℕ) (bs : List ℕ) (i : ℕ) → p (k + i) ≡ true → slice_index (masked_from p k bs) i ≡ slice_index bs i
+pub masked_byte : (p : ℕ → Bool) (k : ℕ) (bs : List ℕ) (i : ℕ) → p (k + i) ≡ true → slice_index (masked_from p k bs) i
+    ≡ slice_index bs i
 masked_byte p k [] i e = refl
 masked_byte p k (b ∷ bs) zero e = rw (subst (λ j. p j ≡ true) (let e : k + 0 ≡ k = omega arith in e) e) refl
 masked_byte p k (b ∷ bs) (suc i) e = masked_byte p (suc k) bs i (subst (λ j. p j ≡ true) (step_on k i) e)
@@ -131,7 +141,9 @@ pub part_in : (a : Access) (f : ℕ → Option Place) (n k : ℕ) → k < n → 
 part_in a f zero k l = absurd (omega (arith, l))
 part_in a f (suc n) k l = at (some_below (λ j. same_place (f j) (f n)) n) refl (eqb k n) refl (part_in a f n)
   where
-    at : (b : Bool) → some_below (λ j. same_place (f j) (f n)) n ≡ b → (c : Bool) → eqb k n ≡ c → ((k : ℕ) → k < n → In (part_at a f (f k)) (parts_below a f n)) → In (part_at a f (f k)) (cond b (parts_below a f n) (part_at a f (f n) ∷ parts_below a f n))
+    at : (b : Bool) → some_below (λ j. same_place (f j) (f n)) n ≡ b → (c : Bool) → eqb k n ≡ c
+        → ((k : ℕ) → k < n → In (part_at a f (f k)) (parts_below a f n))
+        → In (part_at a f (f k)) (cond b (parts_below a f n) (part_at a f (f n) ∷ parts_below a f n))
     at true e true d rec =
         let r = some_yes (λ j. same_place (f j) (f n)) n e in
         let q : f r.0 ≡ f k = same_is (f r.0) (f n) r.2 ∙ ap f (sym (eqb-true k n d)) in
@@ -151,7 +163,8 @@ part_from a f (suc n) v h = at (some_below (λ j. same_place (f j) (f n)) n) h (
     more : IsPart a f n v → IsPart a f (suc n) v
     more r = (r.0, omega (arith, r.1), r.2)
 
-    at : (b : Bool) → In v (cond b (parts_below a f n) (part_at a f (f n) ∷ parts_below a f n)) → (In v (parts_below a f n) → IsPart a f n v) → IsPart a f (suc n) v
+    at : (b : Bool) → In v (cond b (parts_below a f n) (part_at a f (f n) ∷ parts_below a f n))
+        → (In v (parts_below a f n) → IsPart a f n v) → IsPart a f (suc n) v
     at true h rec = more (rec h)
     at false (inl e) rec = (n, omega arith, e)
     at false (inr h) rec = more (rec h)
@@ -167,24 +180,32 @@ module _ (a : Access) (p : ℕ → Bool) (q : Option Place) where
   pub covers_from : (x : ℕ) → InExtent (op_of a p q) x → p (x - a.extent.addr) ≡ true → has_byte x (op_of a p q) ≡ true
   covers_from x h e =
       let l : x - a.extent.addr < a.extent.len = omega (arith, h.0, h.1) in
-      and_from _ _ (from_bounds a.extent x h.0 h.1) (eq-eqb _ _ (mask_bit p 0 a.extent.len (x - a.extent.addr) l ∙ ap (λ b. cond b 1 0) (ap p (let z : 0 + (x - a.extent.addr) ≡ x - a.extent.addr = omega arith in z) ∙ e)))
+      and_from _ _ (from_bounds a.extent x h.0 h.1) (eq-eqb _ _ (mask_bit p 0 a.extent.len (x - a.extent.addr) l
+      ∙ ap (λ b. cond b 1 0) (ap p (let z : 0 + (x - a.extent.addr) ≡ x - a.extent.addr = omega arith in z) ∙ e)))
 
-  pub covers_parts : (x : ℕ) → has_byte x (op_of a p q) ≡ true → InExtent (op_of a p q) x × (p (x - a.extent.addr) ≡ true)
+  pub covers_parts : (x : ℕ) → has_byte x (op_of a p q) ≡ true → InExtent (op_of a p q) x
+      × (p (x - a.extent.addr) ≡ true)
   covers_parts x e =
       let one : ℕ = 1 in
-      let r = and_parts (is_among a.extent.addr a.extent.len x) (eqb (bit_at (mask_from p 0 a.extent.len) (x - a.extent.addr)) one) e in
+      let r = and_parts (is_among a.extent.addr a.extent.len x)
+      (eqb (bit_at (mask_from p 0 a.extent.len) (x - a.extent.addr)) one) e in
       let b = bounds_of a.extent x r.0 in
-      let l : x - a.extent.addr < a.extent.len = omega (arith, b.0, b.1) in
-      ((b.0, b.1), ap p (let z : x - a.extent.addr ≡ 0 + (x - a.extent.addr) = omega arith in z) ∙ at (p (0 + (x - a.extent.addr))) _ (mask_bit p 0 a.extent.len (x - a.extent.addr) l) (eqb-true _ _ r.1))
+      let l : x - a.extent.addr < a.extent.len = omega (arith, b.0, b.1) in (
+        (b.0, b.1),
+        ap p (let z : x - a.extent.addr ≡ 0 + (x - a.extent.addr) = omega arith in z)
+            ∙ at (p (0 + (x - a.extent.addr))) _ (mask_bit p 0 a.extent.len (x - a.extent.addr) l) (eqb-true _ _ r.1),
+      )
     where
       at : (b : Bool) → (m : ℕ) → m ≡ cond b 1 0 → m ≡ 1 → b ≡ true
       at true m e f = refl
       at false m e f = absurd (omega (arith, e, f))
 
   pub put_is : (x : ℕ) → p (x - a.extent.addr) ≡ true → put_at (op_of a p q) x ≡ slice_index a.put (x - a.extent.addr)
-  put_is x e = masked_byte p 0 a.put (x - a.extent.addr) (ap p (let z : 0 + (x - a.extent.addr) ≡ x - a.extent.addr = omega arith in z) ∙ e)
+  put_is x e = masked_byte p 0 a.put (x - a.extent.addr)
+      (ap p (let z : 0 + (x - a.extent.addr) ≡ x - a.extent.addr = omega arith in z) ∙ e)
 
-  pub whole_op : (k : ℕ) → k < a.extent.len → p k ≡ true → length a.got ≡ a.extent.len → length a.put ≡ a.extent.len → IsWhole (op_of a p q)
+  pub whole_op : (k : ℕ) → k < a.extent.len → p k ≡ true → length a.got ≡ a.extent.len → length a.put ≡ a.extent.len
+      → IsWhole (op_of a p q)
   whole_op k l e g s = record {
     some = mask_some p 0 a.extent.len k l (ap p (let z : 0 + k ≡ k = omega arith in z) ∙ e);
     within = mask_within p 0 a.extent.len;
@@ -200,5 +221,6 @@ module _ (a : Access) (p : ℕ → Bool) (q : Option Place) where
       let back : (a.extent.addr + n) - a.extent.addr ≡ n = omega arith in
       record {
         here = covers_from (a.extent.addr + n) (omega arith, omega (arith, b)) (ap p back ∙ f.passes);
-        lowest = λ x c. let r = covers_parts x c in let g = f.least (x - a.extent.addr) (omega arith) r.1 in let y = r.0.0 in omega (arith, g, y);
+        lowest = λ x c. let r = covers_parts x c in let g = f.least (x - a.extent.addr) (omega arith) r.1 in let y =
+            r.0.0 in omega (arith, g, y);
       }

@@ -1,10 +1,9 @@
 -- What an instruction is, by what it is to do.
-use Rattle.std.proofs.Common.{ℕ, ◌≡◌, Bool, true, false, ◌||◌, Option, Some, None, refl, sym, ◌∙◌}
+use Rattle.std.proofs.Common.{◌≡◌, Bool, true, false, ◌||◌, Some, None, refl}
 use Rattle.std.proofs.lemmas.Bool.{false≢true}
 use Rattle.rv_decode.specs.declared.instruction.Insn.{Insn}
 use Rattle.rv_decode.specs.declared.instruction.Insn.TheVariants.{Load, Store, Csr, Lr, Sc, Amo}
 use Rattle.rv_step.specs.Promises.{is_plain, reads_counter}
-use Rattle.rvwmo_model.specs.declared.operations.OpKind.{OpKind}
 use Rattle.rvwmo_model.specs.declared.operations.OpKind.TheVariants as kind
 use Rattle.rvwmo_model.specs.declared.operations.Ann.TheVariants as ann
 use Rattle.rv_decode.specs.Kinds.{is_lr, is_sc, is_amo_or_sc}
@@ -62,7 +61,14 @@ pub record IsStore (i : Insn) : Type 0 where
   pub release : release_of i ≡ ann.None
 
 pub store_kind : (i : Insn) → is_store i ≡ true → IsStore i
-store_kind (Store op rs1 rs2 imm) e = record { stores = refl; plain = refl; apart = refl; acquire = refl; release = refl }
+store_kind (Store op rs1 rs2 imm) e = record {
+  stores = refl;
+  plain = refl;
+  apart = refl;
+  acquire = refl;
+  release =
+      refl;
+}
 store_kind _ e = absurd (false≢true e)
 
 -- an SC

@@ -1,5 +1,5 @@
 -- The entries of a list of messages: what one more message adds, and of which instruction it is.
-use Rattle.std.proofs.Common.{ℕ, ◌≡◌, ◌⊎◌, inl, inr, List, [], ◌∷◌, Option, Some, None, refl, sym, ap, subst}
+use Rattle.std.proofs.Common.{ℕ, ◌≡◌, ◌⊎◌, inl, inr, List, Option, Some, None, refl, sym, ap, subst}
 use Rattle.msg_frames.specs.declared.message.Head.{Head}
 use Rattle.msg_frames.specs.declared.message.Body.{Body}
 use Rattle.msg_frames.specs.declared.message.Body.TheVariants as body
@@ -31,7 +31,8 @@ is_at : (head : Head) (f e : Entry) → Some f ≡ Some e → IsAt head f → Is
 is_at head f e q k = subst (IsAt head) (let c : f ≡ e = cc in c) k
 
 -- the entry of a Retire is of its hart and tag
-pub entry_key : (rs bs : List Report) (head : Head) (put : List ℕ) (d : Doing) (e : Entry) → entry_of rs bs head put d ≡ Some e → IsAt head e
+pub entry_key : (rs bs : List Report) (head : Head) (put : List ℕ) (d : Doing) (e : Entry) → entry_of rs bs head put d
+    ≡ Some e → IsAt head e
 entry_key rs bs head put (trap cause value) e q = absurd (cc)
 entry_key rs bs head put (plain insn) e q = is_at head _ e q (refl, refl)
 entry_key rs bs head put (counter insn) e q = is_at head _ e q (refl, refl)
@@ -41,6 +42,8 @@ entry_key rs bs head put (lr insn addr len) e q = is_at head _ e q (refl, refl)
 entry_key rs bs head put (sc insn addr len) e q = is_at head _ e q (refl, refl)
 entry_key rs bs head put (amo insn addr len) e q = is_at head _ e q (refl, refl)
 
-pub new_key : (image : Loaded) (before : List Message) (head : Head) (b : Body) (e : Entry) → entry_in image before head b ≡ Some e → IsAt head e
-new_key image before head (body.Retire retire) e q = entry_key (live before head.hart) (early before) head (stored_at image before head retire) (doing_at image before head.hart) e q
+pub new_key : (image : Loaded) (before : List Message) (head : Head) (b : Body) (e : Entry) → entry_in image before head
+    b ≡ Some e → IsAt head e
+new_key image before head (body.Retire retire) e q = entry_key (live before head.hart) (early before) head
+    (stored_at image before head retire) (doing_at image before head.hart) e q
 new_key image before head _ e q = absurd (cc)

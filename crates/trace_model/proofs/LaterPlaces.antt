@@ -1,7 +1,8 @@
 -- The places of later instructions are of later messages, or of reports that are open now.
-use Rattle.std.proofs.Common.{ℕ, ◌+◌, ◌<◌, ◌≤◌, ◌≡◌, ◌⊎◌, inl, inr, Bool, true, false, not, eqb, ltb, ◌&&◌, cond, List, []}
+use Rattle.std.proofs.Common.{ℕ, ◌+◌, ◌<◌, ◌≡◌, ◌⊎◌, inl, inr, Bool, true, false, not, eqb, ltb, ◌&&◌, cond, List}
+use Rattle.std.proofs.Common.{[]}
 use Rattle.std.proofs.Common.{◌∷◌, ◌++◌, length, Option, Some, None, refl, sym, ap, subst, ◌∙◌, arith}
-use Rattle.std.specs.List.{Contains, filter}
+use Rattle.std.specs.List.{filter}
 use Rattle.std.proofs.lemmas.Bool.{and_parts, eqb-true}
 use Rattle.std.proofs.lemmas.List.{length-append}
 use Rattle.tandem_base.specs.declared.extent.Extent.{Extent}
@@ -13,7 +14,6 @@ use Rattle.msg_frames.specs.declared.message.Message.{Message}
 use Rattle.elf_image.specs.Images.{Loaded}
 use Rattle.rv_decode.specs.declared.instruction.Insn.{Insn}
 use Rattle.rv_step.specs.Steps.{Doing, trap, plain, counter, load, store, lr, sc, amo}
-use Rattle.rvwmo_model.specs.declared.instructions.Retired.{Retired}
 use Rattle.rvwmo_model.specs.declared.operations.Op.{Op}
 use Rattle.rvwmo_model.specs.declared.operations.OpKind.{OpKind}
 use Rattle.rvwmo_model.specs.declared.operations.Ann.{Ann}
@@ -28,9 +28,8 @@ use Rattle.matching.specs.Reports.{report_of, is_report, is_for, live_in, live, 
 use Rattle.matching.specs.Reports.{place_of_report, place_counted}
 use Rattle.matching.specs.Fates.{drained, fate_in, fate, place_of}
 use Rattle.matching.specs.Runs.{doing_at}
-use Rattle.matching.specs.Matching.{IsClean}
 use Rattle.trace_model.specs.Extents.{extent_of}
-use Rattle.trace_model.specs.Entries.{MemoryUse, Fixed, Stores, Entry, keys_of}
+use Rattle.trace_model.specs.Entries.{Fixed, Entry}
 use Rattle.trace_model.specs.Retirements.{load_access, read_places, load_ops, atomic_ops, amo_ops, sc_ops, entry_of}
 use Rattle.trace_model.specs.Traces.{stored_at, entry_in, entries, places, trace_of}
 use Rattle.trace_model.specs.LaterPlaces.{IsReported, IsOrigin, PlacesOfLater}
@@ -161,7 +160,8 @@ done_cases X ms head (body.Write write) h t x q new old e =
 done_cases X ms head (body.Bypass piece) h t x q new old e = at (is_early ms head) (is_of head h t && has piece x) e
   where
     at : (c d : Bool) → cond c (fate ms h t x) (cond d
-        (Done (record { time = head.time; message = number_after ms; insert = number_after ms })) (fate ms h t x)) ≡ Done q
+        (Done (record { time = head.time; message = number_after ms; insert = number_after ms })) (fate ms h t x))
+        ≡ Done q
         → X
     at true d e = old e
     at false true e = new (ap (λ (p : Place). p.message)
@@ -221,16 +221,18 @@ module _ (image : Loaded) (before : List Message) where
   entry_since : (later : List Message) (e : Entry) → In e (entries image (later ++ before))
       → In e (entries image before) ⊎ IsFixedAt (Allowed e.insn.hart) e.memory
   entry_since [] e i = inl i
-  entry_since (m ∷ ls) e i = elim (with_cases (entry_in image (ls ++ before) m.head m.body) (entries image (ls ++ before)) e i) [
-    | inl j ↦ entry_since ls e j
-    | inr s ↦ inr (new_at ls m.head m.body e s)
-  ]
+  entry_since (m ∷ ls) e i = elim (with_cases (entry_in image (ls ++ before) m.head m.body)
+      (entries image (ls ++ before)) e i) [
+        | inl j ↦ entry_since ls e j
+        | inr s ↦ inr (new_at ls m.head m.body e s)
+      ]
 
   suited_before : (later : List Message) → Suited image (later ++ before) → Suited image before
   suited_before [] s = s
   suited_before (m ∷ ls) s = suited_before ls s.0
 
-  module _ (later : List Message) (s : Suited image (later ++ before)) (o : Op) (young : IsYounger (trace_of image before) o) where
+  module _ (later : List Message) (s : Suited image (later ++ before)) (o : Op)
+      (young : IsYounger (trace_of image before) o) where
     good : AreEntries (entries image (later ++ before))
     good = are_entries image (later ++ before) s
 
@@ -254,7 +256,8 @@ module _ (image : Loaded) (before : List Message) where
       ]
     ]
 
-    of_entry : Comes (places (later ++ before)) (entries image (later ++ before)) o → IsOrigin before o.name.hart o.place
+    of_entry : Comes (places (later ++ before)) (entries image (later ++ before)) o → IsOrigin before o.name.hart
+        o.place
     of_entry (is_stored e a k i d l same) =
         subst (IsOrigin before o.name.hart) (sym (ap (λ (z : Op). z.place) same))
         (of_fate a.hart a.tag (a.extent.addr + k) (fate (later ++ before) a.hart a.tag (a.extent.addr + k)) refl

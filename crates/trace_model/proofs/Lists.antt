@@ -1,8 +1,8 @@
 -- Members of lists, and each two of a list, by cases.
-use Rattle.std.proofs.Common.{ℕ, zero, suc, ◌<◌, ◌≤◌, ◌≡◌, ◌⊎◌, inl, inr, Bool, true, false, List, [], ◌∷◌, ◌++◌, cond, length}
-use Rattle.std.proofs.Common.{map, refl, sym, ap, subst, ◌∙◌, slice_index_or, arith}
+use Rattle.std.proofs.Common.{ℕ, zero, suc, ◌<◌, ◌≡◌, ◌⊎◌, inl, inr, Bool, true, List, [], ◌∷◌, ◌++◌}
+use Rattle.std.proofs.Common.{length}
+use Rattle.std.proofs.Common.{map, refl, ap, subst, slice_index_or, arith}
 use Rattle.std.specs.List.{Contains, AllPairs, filter, flat_map}
-use Rattle.std.proofs.lemmas.Bool.{false≢true}
 use Rattle.rvwmo_model.proofs.Membership.{nothing_in, head_in, first_in, tail_in, pairs_head, pairs_tail}
 use Rattle.rvwmo_model.proofs.Membership as members
 
@@ -52,12 +52,14 @@ from_map f [] y h = absurd h
 from_map f (x ∷ xs) y (inl e) = (x, inl refl, e)
 from_map f (x ∷ xs) y (inr h) = let r = from_map f xs y h in (r.0, inr r.1, r.2)
 
-pub in_flat : {X Y : Type 0} (f : X → List Y) (xs : List X) (x : X) (y : Y) → In x xs → In y (f x) → In y (flat_map f xs)
+pub in_flat : {X Y : Type 0} (f : X → List Y) (xs : List X) (x : X) (y : Y) → In x xs → In y (f x)
+    → In y (flat_map f xs)
 in_flat f [] x y h i = absurd h
 in_flat f (z ∷ xs) x y (inl e) i = in_left (f z) (flat_map f xs) y (subst (λ w. In y (f w)) e i)
 in_flat f (z ∷ xs) x y (inr h) i = in_right (f z) (flat_map f xs) y (in_flat f xs x y h i)
 
-pub from_flat : {X Y : Type 0} (f : X → List Y) (xs : List X) (y : Y) → In y (flat_map f xs) → (x : X) × In x xs × In y (f x)
+pub from_flat : {X Y : Type 0} (f : X → List Y) (xs : List X) (y : Y) → In y (flat_map f xs) → (x : X) × In x xs
+    × In y (f x)
 from_flat f [] y h = absurd h
 from_flat f (z ∷ xs) y h = elim (in_cases (f z) (flat_map f xs) y h) [
   | inl a ↦ (z, inl refl, a)
@@ -90,5 +92,7 @@ of_pairs R (x ∷ xs) p (suc i) (suc j) d l m = of_pairs R xs p.1 i j d (omega (
 pub pairs_append : {X : Type 0} (R : X → X → Type 0) (xs ys : List X) → Pairs R xs → Pairs R ys
     → ((x y : X) → In x xs → In y ys → R x y) → Pairs R (xs ++ ys)
 pairs_append R [] ys p q r = q
-pairs_append R (x ∷ xs) ys p q r =
-    (λ v i. elim (in_cases xs ys v i) [ inl a ↦ p.0 v a | inr b ↦ r x v (inl refl) b ], pairs_append R xs ys p.1 q (λ w v i j. r w v (inr i) j))
+pairs_append R (x ∷ xs) ys p q r = (
+  λ v i. elim (in_cases xs ys v i) [ inl a ↦ p.0 v a | inr b ↦ r x v (inl refl) b ],
+  pairs_append R xs ys p.1 q (λ w v i j. r w v (inr i) j),
+)

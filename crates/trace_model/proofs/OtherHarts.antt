@@ -1,6 +1,7 @@
 -- What is told of one hart stays at a message of another.
-use Rattle.std.proofs.Common.{ℕ, zero, suc, ◌+◌, ◌≡◌, inl, inr, Bool, true, false, not, eqb, ltb, ◌&&◌, cond, List, [], ◌∷◌}
-use Rattle.std.proofs.Common.{◌++◌, length, Option, Some, None, refl, sym, ap, subst, ◌∙◌}
+use Rattle.std.proofs.Common.{ℕ, zero, suc, ◌+◌, ◌≡◌, Bool, true, false, not, eqb, ◌&&◌, cond, List, []}
+use Rattle.std.proofs.Common.{◌∷◌}
+use Rattle.std.proofs.Common.{length, Option, Some, None, refl, sym, ap, subst, ◌∙◌}
 use Rattle.std.specs.List.{filter, flat_map}
 use Rattle.std.proofs.lemmas.Bool.{both_ways, and_parts, eqb-true, eq-eqb}
 use Rattle.std.proofs.lemmas.List.Elements.{filter-append}
@@ -32,7 +33,7 @@ use Rattle.trace_model.specs.Groups.{Access, same_place, part_at, some_below, pa
 use Rattle.trace_model.specs.Entries.{MemoryUse, Fixed, Stores, Entry, Places, keys_of, memory_ops, entry_ops}
 use Rattle.trace_model.specs.Retirements.{load_access, read_places, store_access, bypass_op, atomic_ops, entry_of}
 use Rattle.trace_model.specs.Traces.{entry_in, with_entry, entries, places, stored_at, trace_of}
-use Rattle.trace_model.specs.Kept.{is_kept, earliest_place, oldest_place, kept_of}
+use Rattle.trace_model.specs.Kept.{is_kept, oldest_place, kept_of}
 use Rattle.trace_model.proofs.Groups.{fun_ext}
 use Rattle.trace_model.proofs.Early.{latest_in}
 
@@ -89,7 +90,8 @@ module _ (before : List Message) (head : Head) (h : ℕ) (other : eqb head.hart 
               (eq-eqb head.hart h (sym (eqb-true r.hart head.hart q) ∙ eqb-true r.hart h e)))
   early_stays _ = refl
 
-  pub stores_stay : (image : Loaded) (b : Body) → stores_in image before (stores image before h) head b h ≡ stores image before h
+  pub stores_stay : (image : Loaded) (b : Body) → stores_in image before (stores image before h) head b h
+      ≡ stores image before h
   stores_stay image (body.Retire retire) = rw other refl
   stores_stay image _ = refl
 
@@ -109,7 +111,8 @@ module _ (h : ℕ) (p : Op → Bool) (own : (v : Op) → eqb v.name.hart h ≡ f
       → ((r : Report) → o ≡ Some r → eqb r.hart h ≡ false)
       → filter p (atomic_ops k extent got acquire release o) ≡ []
   no_atomic k extent got acquire release None e = refl
-  no_atomic k extent got acquire release (Some r) e = rw (own (bypass_op k extent got acquire release r) (e r refl)) refl
+  no_atomic k extent got acquire release (Some r) e = rw (own (bypass_op k extent got acquire release r) (e r refl))
+      refl
 
   -- two places of bytes that agree on the hart give its stores the same operations
   module _ (g g' : Places) (agree : (t x : ℕ) → g' h t x ≡ g h t x) where
@@ -166,7 +169,8 @@ module _ (h : ℕ) (p : Op → Bool) (own : (v : Op) → eqb v.name.hart h ≡ f
     new_none g rs bs put (amo insn addr len) = none_of g _
         (no_atomic _ _ _ _ _ (early_of bs head.hart head.tag) (λ r e. bypass_hart bs r e))
 
-    in_none : (g : Places) (image : Loaded) (before : List Message) (b : Body) → AddsNone g (entry_in image before head b)
+    in_none : (g : Places) (image : Loaded) (before : List Message) (b : Body)
+        → AddsNone g (entry_in image before head b)
     in_none g image before (body.Retire retire) = new_none g (live before head.hart) (early before)
         (stored_at image before head retire) (doing_at image before head.hart)
     in_none g image before _ = λ e q. absurd (cc)
@@ -179,9 +183,11 @@ module _ (h : ℕ) (p : Op → Bool) (own : (v : Op) → eqb v.name.hart h ≡ f
 
     -- so the operations that pass stay
     pub kept_stay : (image : Loaded) (before : List Message) (b : Body)
-        → filter p (trace_of image (record { head = head; body = b } ∷ before)).ops ≡ filter p (trace_of image before).ops
+        → filter p (trace_of image (record { head = head; body = b } ∷ before)).ops
+        ≡ filter p (trace_of image before).ops
     kept_stay image before b =
-        with_none (places (record { head = head; body = b } ∷ before)) (entry_in image before head b) (entries image before)
+        with_none (places (record { head = head; body = b } ∷ before)) (entry_in image before head b)
+        (entries image before)
         (in_none (places (record { head = head; body = b } ∷ before)) image before b)
         ∙ ops_same (places before) (places (record { head = head; body = b } ∷ before))
         (λ t x. ap place_of (fate_stays before head h other b t x)) (entries image before)

@@ -1,7 +1,8 @@
 -- What an instruction is to do: its kind and its bytes; and what a plain store stores.
-use Rattle.std.proofs.Common.{ℕ, ◌+◌, ◌%◌, ◌^◌, ◌<◌, ◌≤◌, ◌≡◌, ◌⊎◌, inl, inr, Bool, true, false, not, eqb, leb, ◌&&◌, cond, List}
-use Rattle.std.proofs.Common.{length, Option, Some, None, refl, sym, ap, subst, ◌∙◌, arith}
-use Rattle.std.proofs.lemmas.Bool.{both_ways, false≢true, and_parts, and_from, eqb-true, not-false, le-leb}
+use Rattle.std.proofs.Common.{ℕ, ◌+◌, ◌%◌, ◌^◌, ◌≤◌, ◌≡◌, ◌⊎◌, inl, inr, Bool, true, false, not, eqb, leb, ◌&&◌}
+use Rattle.std.proofs.Common.{cond}
+use Rattle.std.proofs.Common.{length, Option, Some, None, refl, sym, ap, subst, arith}
+use Rattle.std.proofs.lemmas.Bool.{false≢true, and_parts, and_from, eqb-true, not-false, le-leb}
 use Rattle.std.proofs.lemmas.List.{length-take-le}
 use Rattle.std.specs.Int.{w64, to_le_bytes}
 use Rattle.msg_frames.specs.declared.message.Piece.{Piece}
@@ -22,7 +23,7 @@ use Rattle.rv_step.specs.CsrUse.{is_counter, is_legal_csr}
 use Rattle.rv_step.specs.Harts.{HartState, x_of, plus}
 use Rattle.rv_step.specs.Integers.{is_taken, without_low_bit}
 use Rattle.rv_step.specs.Memory.{load_size, store_size, atomic_size, low_bytes}
-use Rattle.rv_step.specs.Plans.{PlanOf, accessed, address_of, access_size, doing_of, doing_word, fault_cause, fault_of}
+use Rattle.rv_step.specs.Plans.{accessed, address_of, access_size, doing_of, doing_word, fault_cause, fault_of}
 use Rattle.rv_step.specs.Plans.{illegal, is_held, has_bytes, jumps, misaligned_cause, must_align, plan_fetched, plan_of}
 use Rattle.rv_step.specs.Promises.{is_plain, reads_counter}
 use Rattle.rv_step.specs.Steps.{Doing, trap, plain, counter, load, store, lr, sc, amo, executed}

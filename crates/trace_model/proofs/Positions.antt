@@ -1,7 +1,7 @@
 -- The time of a place is that of its message, and so places are in the order of positions.
-use Rattle.std.proofs.Common.{ℕ, ◌+◌, ◌<◌, ◌≤◌, ◌≡◌, ◌⊎◌, inl, inr, Bool, true, false, eqb, ltb, ◌&&◌, ◌||◌, List, [], ◌∷◌}
-use Rattle.std.proofs.Common.{◌++◌, length, map, Option, Some, None, refl, sym, ap, subst, ◌∙◌, arith}
-use Rattle.std.specs.List.{Contains}
+use Rattle.std.proofs.Common.{ℕ, ◌+◌, ◌<◌, ◌≤◌, ◌≡◌, inl, inr, List, []}
+use Rattle.std.proofs.Common.{◌∷◌}
+use Rattle.std.proofs.Common.{◌++◌, map, Some, refl, sym, ap, subst, ◌∙◌, arith}
 use Rattle.std.proofs.lemmas.Bool.{cases_order}
 use Rattle.std.proofs.lemmas.Bool.Decides.{nat_tests}
 use Rattle.tandem_base.specs.declared.names.Place.{Place}
@@ -12,13 +12,11 @@ use Rattle.msg_frames.specs.declared.message.Body.TheVariants as body
 use Rattle.msg_frames.specs.declared.message.Message.{Message}
 use Rattle.elf_image.specs.Images.{Loaded}
 use Rattle.rvwmo_model.specs.declared.operations.Op.{Op}
-use Rattle.rvwmo_model.specs.Order.{everything}
 use Rattle.matching.specs.declared.reports.Report.{Report}
 use Rattle.matching.specs.declared.stores.Fate.TheVariants.{Done}
 use Rattle.matching.specs.Settings.{number_after, last_time}
 use Rattle.matching.specs.Reports.{live, early, place_of_report}
 use Rattle.matching.specs.Fates.{fate}
-use Rattle.matching.specs.Matching.{IsClean}
 use Rattle.trace_model.specs.Entries.{Entry}
 use Rattle.trace_model.specs.Traces.{entries, places, early_op, trace_of}
 use Rattle.trace_model.specs.FirstWrites.{IsMessage}
@@ -26,7 +24,8 @@ use Rattle.trace_model.specs.Positions.{IsPerformedAt, HasMessage, position_of, 
 use Rattle.trace_model.proofs.Lists.{In, in_cases, from_map, listed}
 use Rattle.trace_model.proofs.Entries.{Comes, is_fixed, is_stored, comes}
 use Rattle.trace_model.proofs.Facts.{fate_all, live_all, early_all}
-use Rattle.trace_model.proofs.FirstWrites.{message, message_new, message_on, message_cases, message_in, message_one, message_none}
+use Rattle.trace_model.proofs.FirstWrites.{message, message_new, message_on, message_cases, message_in, message_one}
+use Rattle.trace_model.proofs.FirstWrites.{message_none}
 use Rattle.trace_model.proofs.Past.{Timed, IsFixedAt, entries_all, done_of}
 use Rattle.trace_model.proofs.Known.{timed}
 use Rattle.trace_model.proofs.Cleaned.{suited}
@@ -59,7 +58,8 @@ fate_message = fate_all HasMessage (record {
   bypass = λ before head piece. new_message before head (body.Bypass piece) (number_after before);
 })
 
-live_message : (before : List Message) (h : ℕ) (r : Report) → In r (live before h) → HasMessage before (place_of_report r)
+live_message : (before : List Message) (h : ℕ) (r : Report) → In r (live before h)
+    → HasMessage before (place_of_report r)
 live_message = live_all (λ before h r. HasMessage before (place_of_report r)) (record {
   on = λ before m h r y. message_more before m (place_of_report r) y;
   read = λ before head piece. new_message before head (body.Read piece) (number_after before);
@@ -119,7 +119,8 @@ module _ (messages : List Message) (t : Timed messages) where
   -- of two messages the later has no lower time
   time_up : (p q : Place) → HasMessage messages p → HasMessage messages q → p.message < q.message → p.time ≤ q.time
   time_up p q a b l =
-      let m = message_in b.message.later p.message a.older a.head a.body q.message b.older b.head b.body b.message.number
+      let m = message_in b.message.later p.message a.older a.head a.body q.message b.older b.head b.body
+      b.message.number
       (subst (λ (z : List Message). IsMessage z p.message a.older a.head a.body) b.message.whole a.message) l in
       let u = timed_at b.message.later b.older b.head b.body (subst Timed b.message.whole t) in
       let d = not_later b.older u.0 p.message a.older a.head a.body m in
@@ -130,7 +131,7 @@ module _ (messages : List Message) (t : Timed messages) where
   time_same : (p q : Place) → HasMessage messages p → HasMessage messages q → p.message ≡ q.message → p.time ≡ q.time
   time_same p q a b e =
       let m : IsMessage messages q.message a.older a.head a.body =
-          subst (λ (z : ℕ). IsMessage messages z a.older a.head a.body) e a.message in
+      subst (λ (z : ℕ). IsMessage messages z a.older a.head a.body) e a.message in
       let s = message_one b.message.later q.message a.older a.head a.body b.older b.head b.body b.message.number
       (subst (λ (z : List Message). IsMessage z q.message a.older a.head a.body) b.message.whole m) in
       sym a.timed ∙ ap (λ (z : Head). z.time) s.0 ∙ b.timed

@@ -1,5 +1,6 @@
 -- What a list of messages without faults leaves of its newest message.
-use Rattle.std.proofs.Common.{ℕ, ◌+◌, ◌%◌, ◌<◌, ◌≤◌, ◌≡◌, ◌⊎◌, Bool, true, false, List, [], ◌∷◌, length, Option, Some, None}
+use Rattle.std.proofs.Common.{ℕ, ◌+◌, ◌%◌, ◌<◌, ◌≤◌, ◌≡◌, ◌⊎◌, true, false, List, [], ◌∷◌, length, Option, Some}
+use Rattle.std.proofs.Common.{None}
 use Rattle.msg_frames.specs.declared.message.Head.{Head}
 use Rattle.msg_frames.specs.declared.message.Piece.{Piece}
 use Rattle.msg_frames.specs.declared.message.Retire.{Retire}
@@ -118,7 +119,8 @@ SuitsDoing live early pair head put (load insn addr len) = SuitsLoad live early 
 SuitsDoing live early pair head put (store insn addr len) = SuitsStore early head put addr len × (is_store insn ≡ true)
 SuitsDoing live early pair head put (lr insn addr len) = SuitsLr live early head addr len × (is_lr insn ≡ true)
 SuitsDoing live early pair head put (sc insn addr len) =
-    ((early_of early head.hart head.tag ≡ None) ⊎ SuitsSc early pair head addr len) × (is_sc insn ≡ true) × (is_extent addr len ≡ true)
+    ((early_of early head.hart head.tag ≡ None) ⊎ SuitsSc early pair head addr len) × (is_sc insn ≡ true)
+    × (is_extent addr len ≡ true)
 SuitsDoing live early pair head put (amo insn addr len) =
     HasOver early head addr len × (is_amo insn ≡ true) × (is_extent addr len ≡ true)
 
@@ -126,7 +128,8 @@ SuitsDoing live early pair head put (amo insn addr len) =
 pub record SuitsRetire (image : Loaded) (before : List Message) (head : Head) (retire : Retire) : Type 0 where
   pub younger : is_younger (last_tag before head.hart) head.tag ≡ true
   pub older : (r : Report) → In r (early before) → r.hart ≡ head.hart → head.tag ≤ r.tag
-  pub doing : SuitsDoing (live before head.hart) (early before) (run_of image before head.hart).pair head (stored_at image before head retire) (doing_at image before head.hart)
+  pub doing : SuitsDoing (live before head.hart) (early before) (run_of image before head.hart).pair head
+      (stored_at image before head retire) (doing_at image before head.hart)
 
 -- ---- lists
 
@@ -138,7 +141,8 @@ SuitsBody image before head (body.Read piece) = Unit {0}
 SuitsBody image before head (body.Insert piece) = SuitsInsert image before head piece
 SuitsBody image before head (body.Write write) = Unit {0}
 SuitsBody image before head (body.Bypass piece) =
-    (is_early before head ≡ true → SuitsEarly before head piece) × (is_early before head ≡ false → SuitsPlain image before head piece)
+    (is_early before head ≡ true → SuitsEarly before head piece)
+    × (is_early before head ≡ false → SuitsPlain image before head piece)
 SuitsBody image before head (body.Retire retire) = SuitsRetire image before head retire
 SuitsBody image before head body.Squash = Unit {0}
 SuitsBody image before head body.End = Unit {0}
@@ -146,4 +150,5 @@ SuitsBody image before head body.End = Unit {0}
 -- time doesn't fall, and each message suits those before it
 abbrev pub Suited : Loaded → List Message → Type 0
 Suited image [] = Unit {0}
-Suited image (m ∷ before) = Suited image before × (last_time before ≤ m.head.time) × SuitsBody image before m.head m.body
+Suited image (m ∷ before) = Suited image before × (last_time before ≤ m.head.time) × SuitsBody image before m.head
+    m.body

@@ -1,5 +1,6 @@
 -- A Write performs the Inserts that its line holds, one after the other.
-use Rattle.std.proofs.Common.{ℕ, ◌+◌, ◌<◌, ◌≤◌, ◌≡◌, inl, inr, Bool, true, false, eqb, ◌&&◌, ◌||◌, cond, List, [], ◌∷◌, Option, Some, None, refl, sym, ap, subst, ◌∙◌, arith}
+use Rattle.std.proofs.Common.{ℕ, ◌+◌, ◌<◌, ◌≤◌, ◌≡◌, inl, inr, Bool, true, false, eqb, ◌&&◌, ◌||◌, cond, List, [], ◌∷◌}
+use Rattle.std.proofs.Common.{Option, Some, None, refl, sym, ap, subst, ◌∙◌, arith}
 use Rattle.std.proofs.lemmas.Bool.{false≢true, both_ways, or_cases, eqb-true, eq-eqb}
 use Rattle.std.proofs.lemmas.Bool.Decides.{nat_tests}
 use Rattle.tandem_base.specs.declared.names.Place.{Place}
@@ -69,7 +70,9 @@ pub falling : (before : List Message) (h l : ℕ) → AreFalling (waiting before
 falling [] h l = tt
 falling (m ∷ before) h l = at m.body (falling before h l)
   where
-    more : (c : Bool) (piece : Piece) → AreFalling (waiting before h l) → AreFalling (cond c (record { number = number_after before; tag = m.head.tag; piece = piece } ∷ waiting before h l) (waiting before h l))
+    more : (c : Bool) (piece : Piece) → AreFalling (waiting before h l)
+        → AreFalling (cond c (record { number = number_after before; tag = m.head.tag; piece = piece }
+        ∷ waiting before h l) (waiting before h l))
     more true piece f = (λ d i. let r = held_number before h l d i in omega (arith, r), f)
     more false piece f = f
 
@@ -77,7 +80,8 @@ falling (m ∷ before) h l = at m.body (falling before h l)
     less true f = tt
     less false f = f
 
-    at : (b : Body) → AreFalling (waiting before h l) → AreFalling (waiting_in (number_after before) (waiting before h l) m.head b h l)
+    at : (b : Body) → AreFalling (waiting before h l) → AreFalling
+        (waiting_in (number_after before) (waiting before h l) m.head b h l)
     at (body.Insert piece) f = more (eqb m.head.hart h && eqb (line_of piece.addr) l) piece f
     at (body.Write write) f = less (eqb m.head.hart h && eqb write.line l) f
     at _ f = f
@@ -93,7 +97,8 @@ pub record IsStored (es : List Entry) (h : ℕ) (e : Held) : Type 0 where
   pub inside : (x : ℕ) → has e.piece x ≡ true → (access.extent.addr ≤ x) × (x < access.extent.addr + access.extent.len)
   pub some : (x : ℕ) × (has e.piece x ≡ true)
 
-module _ (before : List Message) (clean : AreFresh before) (es : List Entry) (early : List Op) (granule : ℕ) (h l time : ℕ) (good : AreEntries es)
+module _ (before : List Message) (clean : AreFresh before) (es : List Entry) (early : List Op) (granule : ℕ)
+    (h l time : ℕ) (good : AreEntries es)
     (stored : (e : Held) → In e (waiting before h l) → IsStored es h e) where
   abbrev n : ℕ
   n = number_after before
@@ -107,7 +112,8 @@ module _ (before : List Message) (clean : AreFresh before) (es : List Entry) (ea
   abbrev at_place : ℕ → Place
   at_place j = record { time = time; message = n; insert = j }
 
-  module _ (e : Held) (js : List Held) (i : In e (waiting before h l)) (all : (d : Held) → In d js → In d (waiting before h l)) (less : (d : Held) → In d js → d.number < e.number) where
+  module _ (e : Held) (js : List Held) (i : In e (waiting before h l))
+      (all : (d : Held) → In d js → In d (waiting before h l)) (less : (d : Held) → In d js → d.number < e.number) where
     st : IsStored es h e
     st = stored e i
 
@@ -137,13 +143,15 @@ module _ (before : List Message) (clean : AreFresh before) (es : List Entry) (ea
         at Nothing q = refl
         at (Waiting j) q = on (eqb j e.number) refl
           where
-            on : (c : Bool) → eqb j e.number ≡ c → cond (eqb j e.number || numbered j js) (Some (at_place j)) None ≡ cond (numbered j js) (Some (at_place j)) None
+            on : (c : Bool) → eqb j e.number ≡ c → cond (eqb j e.number || numbered j js) (Some (at_place j)) None
+                ≡ cond (numbered j js) (Some (at_place j)) None
             on true d = absurd (ne (q ∙ ap Waiting (eqb-true _ _ d)))
             on false d = rw d refl
         at (Done p) q = refl
 
     waits_here : (x : ℕ) → has e.piece x ≡ true → fate before st.access.hart st.access.tag x ≡ Waiting e.number
-    waits_here x p = subst (λ (z : ℕ). fate before z st.access.tag x ≡ Waiting e.number) (sym st.hart) (subst (λ (z : ℕ). fate before h z x ≡ Waiting e.number) (sym st.tag) (held_waits before clean h l e x i p))
+    waits_here x p = subst (λ (z : ℕ). fate before z st.access.tag x ≡ Waiting e.number) (sym st.hart)
+        (subst (λ (z : ℕ). fate before h z x ≡ Waiting e.number) (sym st.tag) (held_waits before clean h l e x i p))
 
     numbered_here : numbered e.number (e ∷ js) ≡ true
     unfolding numbered
@@ -154,23 +162,27 @@ module _ (before : List Message) (clean : AreFresh before) (es : List Entry) (ea
       others = λ g t x ne. still g t x (λ f. let s = mine g t x f in ne (s.0 ∙ sym st.hart) (s.1 ∙ sym st.tag));
       was = λ x p. rw (waits_here x p) (rw not_yet refl);
       is = λ x p. rw (waits_here x p) (rw (numbered_here) refl);
-      stays = λ x p. still st.access.hart st.access.tag x (λ f. both_ways _ p (mine st.access.hart st.access.tag x f).2);
+      stays = λ x p. still st.access.hart st.access.tag x
+          (λ f. both_ways _ p (mine st.access.hart st.access.tag x f).2);
       inside = st.inside;
       some = st.some;
     }
 
     pub step : IsBelow (t js) (at_place e.number) → IsStep (t js) (t (e ∷ js)) h e.tag (at_place e.number) (has e.piece)
-    step below = steps es early granule (places js) (places (e ∷ js)) st.access (at_place e.number) (has e.piece) st.entry good st.there st.stores moves below h e.tag st.hart st.tag
+    step below = steps es early granule (places js) (places (e ∷ js)) st.access (at_place e.number) (has e.piece)
+        st.entry good st.there st.stores moves below h e.tag st.hart st.tag
 
   later : (i j : ℕ) → i < j → earlier (at_place i) (at_place j) ≡ true
   later i j l = grind (arith, nat_tests)
 
   -- all that is placed stays below a later place of this message
-  below_on : (u v : Trace) (i j k : ℕ) (b : ℕ → Bool) → IsStep u v h k (at_place i) b → i < j → IsBelow u (at_place j) → IsBelow v (at_place j)
+  below_on : (u v : Trace) (i j k : ℕ) (b : ℕ → Bool) → IsStep u v h k (at_place i) b → i < j → IsBelow u (at_place j)
+      → IsBelow v (at_place j)
   below_on u v i j k b s l below w q in_v e = elim (in_cases v.ops v.early w in_v) [
     | inr a ↦ below w q (in_right u.ops u.early w (listed _ w (s.performs.early.back w (contained _ w a)))) e
     | inl a ↦ elim (s.performs.ops_back w (contained _ w a)) [
-      | inl same ↦ let p : Some q ≡ Some (at_place i) = sym e ∙ ap (λ (z : Op). z.place) same ∙ s.place in subst (λ (z : Place). earlier z (at_place j) ≡ true) (let r : at_place i ≡ q = cc in r) (later i j l)
+      | inl same ↦ let p : Some q ≡ Some (at_place i) = sym e ∙ ap (λ (z : Op). z.place) same ∙ s.place in
+          subst (λ (z : Place). earlier z (at_place j) ≡ true) (let r : at_place i ≡ q = cc in r) (later i j l)
       | inr b ↦ elim b [
         | inl left ↦ absurd (let p : Some q ≡ None = sym e ∙ (s.performs.left w left).1 in cc)
         | inr old ↦ below w q (in_left u.ops u.early w (listed _ w old)) e
@@ -185,7 +197,8 @@ module _ (before : List Message) (clean : AreFresh before) (es : List Entry) (ea
     pub are : ArePartsFor h time n js parts
     pub below : (j : ℕ) → ((d : Held) → In d js → d.number < j) → IsBelow (t js) (at_place j)
 
-  chain : ((j : ℕ) → IsBelow (t []) (at_place j)) → (js : List Held) → AreFalling js → ((d : Held) → In d js → In d (waiting before h l)) → Chain js
+  chain : ((j : ℕ) → IsBelow (t []) (at_place j)) → (js : List Held) → AreFalling js
+      → ((d : Held) → In d js → In d (waiting before h l)) → Chain js
   chain start [] falls all = record { parts = []; performs = no_parts; are = tt; below = λ j less. start j }
   chain start (e ∷ js) falls all =
       let c = chain start js falls.1 (λ d i. all d (inr i)) in
@@ -194,8 +207,10 @@ module _ (before : List Message) (clean : AreFresh before) (es : List Entry) (ea
         parts = s.new ∷ c.parts;
         performs = more_parts c.parts (t js) (t (e ∷ js)) s.old s.new s.rest c.performs s.hart s.performs;
         are = (record { hart = s.hart; tag = s.tag; place = s.place; bytes = s.bytes }, c.are);
-        below = λ j less. below_on (t js) (t (e ∷ js)) e.number j e.tag (has e.piece) s (less e (inl refl)) (c.below j (λ d i. less d (inr i)));
+        below = λ j less. below_on (t js) (t (e ∷ js)) e.number j e.tag (has e.piece) s (less e (inl refl))
+            (c.below j (λ d i. less d (inr i)));
       }
 
-  pub whole : ((j : ℕ) → IsBelow (t []) (at_place j)) → AreFalling (waiting before h l) → (parts : List Op) × Performs h (t []) parts (t (waiting before h l)) × ArePartsFor h time n (waiting before h l) parts
+  pub whole : ((j : ℕ) → IsBelow (t []) (at_place j)) → AreFalling (waiting before h l) → (parts : List Op)
+      × Performs h (t []) parts (t (waiting before h l)) × ArePartsFor h time n (waiting before h l) parts
   whole start falls = let c = chain start (waiting before h l) falls (λ d i. i) in (c.parts, c.performs, c.are)

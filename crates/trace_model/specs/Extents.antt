@@ -14,7 +14,13 @@ made addr len true q =
     let s = and_parts (nat_le 1 len) (nat_le len 8) r.0 in
     record { addr = addr; len = len; sized = (leb-true _ _ s.0, leb-true _ _ s.1); within = leb-true _ _ r.1 }
 made addr len false q =
-    record { addr = 0; len = 1; sized = (leb-true 1 1 refl, leb-true 1 8 refl); within = leb-true (0 + 1) (2 ^ 64) refl }
+    record {
+      addr = 0;
+      len = 1;
+      sized = (leb-true 1 1 refl, leb-true 1 8 refl);
+      within =
+          leb-true (0 + 1) (2 ^ 64) refl;
+    }
 
 -- the extent of `len` bytes from an address on; the byte at 0 where there is none
 unfoldable pub extent_of : ℕ → ℕ → Extent

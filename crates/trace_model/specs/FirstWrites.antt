@@ -1,5 +1,5 @@
 -- What became of a byte of a store, told by the messages alone: its Insert, and the first Write of its line after that.
-use Rattle.std.specs.Prelude.{ℕ, ◌<◌, ◌≡◌, ◌⊎◌, ◌↔◌, List, ◌∷◌, ◌++◌, true, false}
+use Rattle.std.specs.Prelude.{ℕ, ◌<◌, ◌≡◌, ◌⊎◌, List, ◌∷◌, ◌++◌, true, false}
 use Rattle.tandem_base.specs.declared.names.Place.{Place}
 use Rattle.msg_frames.specs.declared.message.Head.{Head}
 use Rattle.msg_frames.specs.declared.message.Piece.{Piece}

@@ -1,5 +1,5 @@
 -- How one more message makes the trace grow, by its kind.
-use Rattle.std.specs.Prelude.{ℕ, ◌<◌, ◌≡◌, List, [], ◌∷◌, length, Bool, true, false, None, Some}
+use Rattle.std.specs.Prelude.{ℕ, ◌<◌, List, [], ◌∷◌, length, Bool, true, false, None, Some}
 use Rattle.std.specs.declared.option.Option.{Option}
 use Rattle.tandem_base.specs.declared.names.Place.{Place}
 use Rattle.msg_frames.specs.declared.message.Head.{Head}
@@ -8,14 +8,12 @@ use Rattle.msg_frames.specs.declared.message.Body.{Body}
 use Rattle.msg_frames.specs.declared.message.Body.TheVariants as body
 use Rattle.msg_frames.specs.declared.message.Message.{Message}
 use Rattle.elf_image.specs.Images.{Loaded}
-use Rattle.rv_decode.specs.declared.instruction.Insn.{Insn}
-use Rattle.rv_step.specs.Steps.{Doing, trap, plain, counter, load, store, lr, sc, amo}
 use Rattle.rvwmo_model.specs.declared.operations.Op.{Op}
 use Rattle.rvwmo_model.specs.declared.traces.Trace.{Trace}
 use Rattle.growth_laws.specs.Growth.{Same, AddEarly, AddInsn, Performs, Growth}
 use Rattle.matching.specs.Settings.{number_after}
 use Rattle.matching.specs.Tags.{is_early}
-use Rattle.matching.specs.Reports.{report_of, live, early}
+use Rattle.matching.specs.Reports.{report_of}
 use Rattle.matching.specs.Fates.{waiting}
 use Rattle.matching.specs.Matching.{IsClean}
 use Rattle.trace_model.specs.Entries.{Entry, Places, entry_ops}

@@ -1,6 +1,5 @@
 -- What holds of the trace of every clean list of messages.
-use Rattle.std.specs.Prelude.{ℕ, ◌<◌, ◌≡◌, List, ◌∷◌, ◌++◌, length, Bool, false, eqb}
-use Rattle.tandem_base.specs.declared.names.Place.{Place}
+use Rattle.std.specs.Prelude.{ℕ, ◌<◌, ◌≡◌, List, ◌∷◌, ◌++◌, length, false, eqb}
 use Rattle.msg_frames.specs.declared.message.Message.{Message}
 use Rattle.elf_image.specs.Images.{Loaded}
 use Rattle.growth_laws.specs.Kinds.{WellKinded}

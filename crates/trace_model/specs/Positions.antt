@@ -1,5 +1,5 @@
 -- Places are in the order of their positions in the list: by message, then by Insert.
-use Rattle.std.specs.Prelude.{ℕ, ◌≡◌, List, Some}
+use Rattle.std.specs.Prelude.{◌≡◌, List, Some}
 use Rattle.std.specs.List.{Contains}
 use Rattle.tandem_base.specs.declared.names.Place.{Place}
 use Rattle.tandem_base.specs.declared.names.Position.{Position}

@@ -1,6 +1,6 @@
 -- What an instruction adds to the trace when it retires.
 use Rattle.std.specs.Prelude.{ℕ, ◌+◌, ◌&&◌, List, [], ◌∷◌, replicate, Bool, true, false, None, Some}
-use Rattle.std.specs.Prelude.{is_some, if◌then◌else◌}
+use Rattle.std.specs.Prelude.{is_some}
 use Rattle.std.specs.declared.option.Option.{Option}
 use Rattle.tandem_base.specs.declared.extent.Extent.{Extent}
 use Rattle.tandem_base.specs.declared.names.Place.{Place}
@@ -120,7 +120,8 @@ amo_ops live early head insn extent =
 -- the operation of an SC that succeeded; none of one that failed
 abbrev pub sc_ops : List Report → Head → Insn → Extent → List Op
 sc_ops early head insn extent =
-    atomic_ops kind.Store extent (replicate extent.len 0) (acquire_of insn) (release_of insn) (early_of early head.hart head.tag)
+    atomic_ops kind.Store extent (replicate extent.len 0) (acquire_of insn) (release_of insn)
+    (early_of early head.hart head.tag)
 
 -- the entry of an instruction that retires, by what it is to do, the live Reads of its hart, the early Bypasses, and
 -- the bytes that a plain store stores; none where it traps
@@ -135,6 +136,7 @@ entry_of live early head put (store insn addr len) =
 entry_of live early head put (lr insn addr len) =
     Some (entry head insn false (Fixed (load_ops live head insn (extent_of addr len))))
 entry_of live early head put (sc insn addr len) =
-    Some (entry head insn (is_some (early_of early head.hart head.tag)) (Fixed (sc_ops early head insn (extent_of addr len))))
+    Some (entry head insn (is_some (early_of early head.hart head.tag))
+    (Fixed (sc_ops early head insn (extent_of addr len))))
 entry_of live early head put (amo insn addr len) =
     Some (entry head insn false (Fixed (amo_ops live early head insn (extent_of addr len))))
