@@ -159,7 +159,8 @@ module _ (image : Loaded) (before : List Message) (head : Head) (piece : Piece)
         early_back = λ v h. in_first _ _ v h;
         added = head_in _ _;
         kind = refl;
-        whole = whole_op (bypass_access kind.Store (early_extent r) (replicate (early_extent r).len 0) ann.None ann.None r)
+        whole = whole_op
+            (bypass_access kind.Store (early_extent r) (replicate (early_extent r).len 0) ann.None ann.None r)
             (λ j. true) (Some (place_of_report r)) 0 ((early_extent r).sized.0) refl
             (length-replicate (early_extent r).len 0) sized;
         placed = (place_of_report r, refl);

@@ -155,7 +155,8 @@ has_more es o h t s = record {
 pub owned : (image : Loaded) (before : List Message) → Suited image before → (h t x : ℕ) → IsNothing (fate before h t x)
     ⊎ HasStore (entries image before) h t
 owned image [] c h t x = inl refl
-owned image (m ∷ before) c h t x = elim (owned_now image before m.head h t x (owned image before c.0 h t x) m.body c.2) [
+owned image (m ∷ before) c h t x = elim
+    (owned_now image before m.head h t x (owned image before c.0 h t x) m.body c.2) [
   | inl e ↦ inl e
   | inr s ↦ inr (has_more (entries image before) (entry_in image before m.head m.body) h t s)
 ]

@@ -146,7 +146,8 @@ made_entry live early pair head put (amo insn addr len) s e q = is_entry _ e q (
 pub each_entry : (image : Loaded) (before : List Message) → Suited image before → (e : Entry)
     → In e (entries image before) → IsEntry e
 each_entry image [] s e i = absurd i
-each_entry image (m ∷ before) s e i = elim (with_cases (entry_in image before m.head m.body) (entries image before) e i) [
+each_entry image (m ∷ before) s e i = elim
+    (with_cases (entry_in image before m.head m.body) (entries image before) e i) [
   | inl j ↦ each_entry image before s.0 e j
   | inr q ↦ at m.body s.2 q
 ]

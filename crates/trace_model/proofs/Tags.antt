@@ -64,7 +64,8 @@ module _ (image : Loaded) (before : List Message) (m : Message) (suits : SuitsBo
 pub up_to_last : (image : Loaded) (before : List Message) → Suited image before → (e : Entry)
     → In e (entries image before) → IsUpTo (last_tag before e.insn.hart) e.insn.tag
 up_to_last image [] s e i = absurd i
-up_to_last image (m ∷ before) s e i = elim (with_cases (entry_in image before m.head m.body) (entries image before) e i) [
+up_to_last image (m ∷ before) s e i = elim
+    (with_cases (entry_in image before m.head m.body) (entries image before) e i) [
   | inl j ↦ up_on image before m s.2 e.insn.hart e.insn.tag (up_to_last image before s.0 e j)
   | inr q ↦ up_new image before m s.2 e q
 ]
