@@ -1,0 +1,9 @@
+pub mod CsrLaws
+pub mod Reversed
+pub mod Mapped
+pub mod Loading
+pub mod Waits
+pub mod Younger
+pub mod Steps
+pub mod Same
+pub mod Standing

@@ -1,0 +1,13 @@
+use Rattle.std.proofs.Common.{sym, ◌∙◌, arith}
+use Rattle.matching.proofs.CsrLaws.{csr_broken, csr_passed, csr_ended}
+use Rattle.matching.proofs.compare.check_csrs.Goals as goal
+
+pub returns-in-Err : goal.returns-in-Err
+returns-in-Err c =
+    csr_broken c.loop-index.index c.args.wants.now c.args.gots.now c.check_csr.result c.in-Err.fault
+    c.loop-index.invariant (cc) c.in-Err.is
+
+pub loop-index-preserved : goal.loop-index-preserved
+loop-index-preserved c =
+    csr_passed c.loop-index.index c.args.wants.now c.args.gots.now c.check_csr.result _
+    c.loop-index.invariant (cc) c.in-Ok.is

@@ -1,0 +1,15 @@
+pub mod Settings
+pub mod Searches
+pub mod Pieces
+pub mod Tags
+pub mod Reports
+pub mod Fates
+pub mod Runs
+pub mod Stores
+pub mod Compares
+pub mod PartFaults
+pub mod RetireFaults
+pub mod EndFaults
+pub mod Matching
+pub mod Counts
+pub mod Tables

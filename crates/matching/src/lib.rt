@@ -1,0 +1,20 @@
+//! How reports match the reference model: the first fault of a message, one message at a time, by
+//! plain tables.
+#![tactic(auto)]
+
+mod checks;
+mod compare;
+mod hart_table;
+mod laws;
+mod pieces;
+mod reports;
+mod retire;
+mod run;
+mod stores;
+mod tables;
+
+pub use laws::nothing_is_performed_before_it_retires;
+pub use reports::Report;
+pub use run::{Clocks, Pair};
+pub use stores::{Fate, Held, Stored, Tracked};
+pub use tables::Matching;

@@ -1,0 +1,288 @@
+//! The tables of all harts, one message at a time.
+
+ghost use Rattle.std.specs.Prelude.{◌≡◌, ◌≤◌, length};
+ghost use Rattle.matching.specs.Settings as Settings;
+
+use super::hart_table::{HartTable, starts};
+use super::reports::{Report, drop_report, first_early, report_from};
+use elf_image::Image;
+use msg_frames::{Body, Head, Message};
+use rv_step::Config;
+use std::alloc::{AllocError, Global};
+use tandem_base::Origin;
+use verdict_report::Fault;
+
+/// What the messages of a stream say so far: of each hart its state, its last retired tag, its
+/// counters, its live Reads, its waiting Inserts, its stores with the fate of each byte, and its LR
+/// that an SC may be paired with; and the early Bypasses of all harts.
+#[derive(Debug, Drop)]
+pub struct Matching {
+    known: u8,
+    config: Config,
+    time: u64,
+    early: Vec<Report>,
+    harts: Vec<HartTable>,
+    ghost few: { known ≤ 16 },
+    ghost sixteen: { length harts.items ≡ 16 },
+}
+
+/// Whether the message is an Open.
+fn is_open_message(body: &Body) -> bool
+    ensures { result ≡ Settings.is_open body.now }
+{
+    matches!(body, Body::Open(_))
+}
+
+/// The settings that flags give.
+fn config_in_flags(flags: u8) -> Config
+    ensures { result ≡ Settings.config_in flags }
+{
+    Config {
+        mtval_word: flags % 2 == 1,
+        traps_misaligned: flags / 2 % 2 == 1,
+    }
+}
+
+impl Matching {
+    ghost use Rattle.std.specs.Prelude.{◌≡◌, ◌+◌, ◌<◌, ℕ, List, [], ◌∷◌, reverse, true, IfOk, IfNone, OnSome, OnErr, OnOk};
+    ghost use Rattle.std.specs.Option.{option_map_or};
+    ghost use Rattle.elf_image.specs.Images.{Loaded, loaded_of};
+    ghost use Rattle.msg_frames.specs.Frames.{Fits};
+    ghost use Rattle.msg_frames.specs.declared.message.Message.{Message};
+    ghost use Rattle.msg_frames.specs.declared.message.Body.TheVariants as Body;
+    ghost use Rattle.tandem_base.specs.FirstFault.{passed};
+    ghost use Rattle.matching.specs.Settings.{number_after};
+    ghost use Rattle.matching.specs.Tags.{is_younger};
+    ghost use Rattle.matching.specs.Matching.{match_fault, body_fault_of, stream_fault_of, end_fault_of};
+    ghost use Rattle.matching.specs.EndFaults.{unwritten_below, first_bypass, unretired_fault_of};
+    ghost use Rattle.matching.specs.declared.hart_table.HartTable.{HartTable};
+    ghost use Rattle.matching.specs.declared.tables.Matching.{Matching};
+    ghost use Rattle.matching.specs.Tables.{Stands, IsSame, TakesHart, TakesReport, Takes, kept_of, early_dropped};
+
+    /// The tables before the first message.
+    pub fn new(alloc: Global, image: &Image) -> Result<Matching, AllocError>
+        ensures { IfOk result (λ made. Stands (loaded_of image.now) made []) }
+    {
+        Ok(Matching {
+            known: 0,
+            config: config_in_flags(0),
+            time: 0,
+            early: Vec::new(alloc),
+            harts: starts(alloc, image)?,
+        })
+    }
+
+    /// The place of message `number` in the stream.
+    fn check_place(&self, number: u64, message: &Message) -> Result<(), Fault>
+        requires { Fits message.now }
+        ensures known { OnOk result (message.now.head.hart < 16) }
+        ensures fault { (image : Loaded) (before : List Message) → Stands image self.now before →
+            number ≡ number_after before → result ≡ passed (stream_fault_of before message.now) }
+    {
+        let opens = is_open_message(&message.body);
+        if number == 1 {
+            return if opens { Ok(()) } else { Err(Fault::BadOpen) };
+        }
+        if opens {
+            Err(Fault::BadOpen)
+        } else if message.head.hart >= self.known {
+            Err(Fault::BadHart)
+        } else if message.head.time < self.time {
+            Err(Fault::TimeBack { last: self.time })
+        } else {
+            Ok(())
+        }
+    }
+
+    /// The faults of the harts below this one, and then its own.
+    fn check_store(&self, checked: Result<(), Fault>, hart: u8) -> Result<(), Fault>
+        requires { hart < 16 }
+        ensures { (image : Loaded) (before : List Message) → Stands image self.now before →
+            checked ≡ passed (unwritten_below image before hart) →
+            result ≡ passed (unwritten_below image before (hart + 1)) }
+    {
+        match checked {
+            Ok(()) => self.harts[usize::from(hart)].check_written(hart),
+            Err(fault) => Err(fault),
+        }
+    }
+
+    /// Every store is performed.
+    fn check_stores(&self) -> Result<(), Fault>
+        ensures { (image : Loaded) (before : List Message) → Stands image self.now before →
+            result ≡ passed (unwritten_below image before 16) }
+    {
+        let mut checked = Ok(());
+        for hart in 0..16u8 {
+            checked = self.check_store(checked, hart);
+        }
+        checked
+    }
+
+    /// Every early Bypass has retired.
+    fn check_early(&self) -> Result<(), Fault>
+        ensures { result ≡ passed (unretired_fault_of (first_bypass (reverse self.now.early.items))) }
+    {
+        match first_early(&self.early) {
+            Some(report) => Err(Fault::Unretired {
+                bypass: Origin {
+                    hart: report.hart,
+                    tag: report.tag,
+                },
+            }),
+            None => Ok(()),
+        }
+    }
+
+    /// Nothing is left open.
+    fn check_end(&self) -> Result<(), Fault>
+        ensures { (image : Loaded) (before : List Message) → Stands image self.now before →
+            result ≡ passed (end_fault_of image before) }
+    {
+        self.check_stores()?;
+        self.check_early()
+    }
+
+    /// What is first wrong with a message of a hart, by the hart's table.
+    fn check_hart(&self, image: &Image, message: &Message) -> Result<(), Fault>
+        requires known { message.now.head.hart < 16 }
+        requires fits { Fits message.now }
+        ensures { (before : List Message) → Stands (loaded_of image.now) self.now before →
+            (message.now.body ≡ Body.End → ⊥) →
+            result ≡ passed (body_fault_of (loaded_of image.now) before message.now.head message.now.body) }
+    {
+        self.harts[usize::from(message.head.hart)].check(image, &self.config, &self.early, message)
+    }
+
+    /// What is first wrong with a message of a known hart.
+    fn check_body(&self, image: &Image, message: &Message) -> Result<(), Fault>
+        requires known { message.now.head.hart < 16 }
+        requires fits { Fits message.now }
+        ensures { (before : List Message) → Stands (loaded_of image.now) self.now before →
+            result ≡ passed (body_fault_of (loaded_of image.now) before message.now.head message.now.body) }
+    {
+        match &message.body {
+            Body::End => self.check_end(),
+            _ => self.check_hart(image, message),
+        }
+    }
+
+    /// What is first wrong with message `number`, after those that were taken. `number` is 1 for the
+    /// first message, and one more for each that was taken.
+    pub fn check(&self, image: &Image, number: u64, message: &Message) -> Result<(), Fault>
+        requires { Fits message.now }
+        ensures known { OnOk result (message.now.head.hart < 16) }
+        ensures fault { (before : List Message) → Stands (loaded_of image.now) self.now before →
+            number ≡ number_after before → result ≡ passed (match_fault (loaded_of image.now) before message.now) }
+    {
+        self.check_place(number, message)?;
+        self.check_body(image, message)
+    }
+
+    /// Takes the settings of an Open, and the time of the message.
+    fn note(&mut self, message: &Message)
+        requires { Fits message.now }
+        ensures known { self.new.known
+            ≡ option_map_or (λ info. info.harts) (Settings.open_of message.now.body) self.old.known }
+        ensures config { self.new.config
+            ≡ option_map_or (λ info. Settings.config_in info.flags) (Settings.open_of message.now.body) self.old.config }
+        ensures time { self.new.time ≡ message.now.head.time }
+        ensures early { self.new.early ≡ self.old.early }
+        ensures harts { self.new.harts ≡ self.old.harts }
+    {
+        if let Body::Open(info) = &message.body {
+            self.known = info.harts;
+            self.config = config_in_flags(info.flags);
+        }
+        self.time = message.head.time;
+    }
+
+    /// Takes message `number` into the table of its hart.
+    fn take_hart(&mut self, image: &Image, number: u64, message: &Message) -> Result<(), AllocError>
+        requires known { message.now.head.hart < 16 }
+        requires fits { Fits message.now }
+        ensures kept { OnErr result (IsSame self.old self.new) }
+        ensures taken { OnOk result (TakesHart (loaded_of image.now) number message.now self.old self.new) }
+    {
+        let config = self.config;
+        let early = &self.early;
+        match self.harts.get_mut(usize::from(message.head.hart)) {
+            Some(table) => table.take(image, &config, early, number, message),
+            None => Ok(()),
+        }
+    }
+
+    /// Whether a Bypass is early: its instruction has not retired.
+    fn is_early(&self, head: &Head) -> bool
+        requires { head.now.hart < 16 }
+        ensures { (other : HartTable) → result ≡ is_younger (kept_of self.now head.now.hart other).last head.now.tag }
+    {
+        self.harts[usize::from(head.hart)].is_early(head.tag)
+    }
+
+    /// Takes message `number` into the early Bypasses, or into the table of its hart.
+    fn take_report(&mut self, image: &Image, number: u64, message: &Message) -> Result<(), AllocError>
+        requires known { message.now.head.hart < 16 }
+        requires fits { Fits message.now }
+        ensures kept { OnErr result (IsSame self.old self.new) }
+        ensures taken { OnOk result (TakesReport (loaded_of image.now) number message.now self.old self.new) }
+    {
+        match &message.body {
+            Body::Bypass(piece) if self.is_early(&message.head) => {
+                self.early.push(report_from(number, &message.head, piece))?;
+                Ok(())
+            }
+            _ => self.take_hart(image, number, message),
+        }
+    }
+
+    /// Drops the early Bypass of an instruction that retires.
+    fn drop_early(&mut self, message: &Message)
+        ensures known { self.new.known ≡ self.old.known }
+        ensures config { self.new.config ≡ self.old.config }
+        ensures time { self.new.time ≡ self.old.time }
+        ensures harts { self.new.harts ≡ self.old.harts }
+        ensures early { reverse self.new.early.items
+            ≡ early_dropped (reverse self.old.early.items) message.now.head message.now.body }
+    {
+        if let Body::Retire(_) = &message.body {
+            drop_report(&mut self.early, message.head.hart, message.head.tag);
+        }
+    }
+
+    /// Takes message `number`, which has no fault.
+    fn apply(&mut self, image: &Image, number: u64, message: &Message) -> Result<(), AllocError>
+        requires known { message.now.head.hart < 16 }
+        requires fits { Fits message.now }
+        ensures kept { OnErr result (IsSame self.old self.new) }
+        ensures taken { OnOk result (Takes (loaded_of image.now) number message.now self.old self.new) }
+    {
+        self.take_report(image, number, message)?;
+        self.drop_early(message);
+        self.note(message);
+        Ok(())
+    }
+
+    /// Takes message `number`, or says what is first wrong with it. After a fault, and where memory is
+    /// refused, nothing has changed.
+    pub fn take(&mut self, image: &Image, number: u64, message: &Message) -> Result<Option<Fault>, AllocError>
+        requires { Fits message.now }
+        ensures fault { (before : List Message) → Stands (loaded_of image.now) self.old before →
+            number ≡ number_after before →
+            IfOk result (λ fault. fault ≡ match_fault (loaded_of image.now) before message.now) }
+        ensures taken { (before : List Message) → Stands (loaded_of image.now) self.old before →
+            number ≡ number_after before →
+            IfOk result (λ fault. IfNone fault (Stands (loaded_of image.now) self.new (message.now ∷ before))) }
+        ensures refused { (before : List Message) → Stands (loaded_of image.now) self.old before →
+            IfOk result (λ fault. OnSome fault (Stands (loaded_of image.now) self.new before)) }
+        ensures kept { (before : List Message) → Stands (loaded_of image.now) self.old before →
+            OnErr result (Stands (loaded_of image.now) self.new before) }
+    {
+        match self.check(image, number, message) {
+            Ok(()) => {}
+            Err(fault) => return Ok(Some(fault)),
+        }
+        self.apply(image, number, message)?;
+        Ok(None)
+    }
+}

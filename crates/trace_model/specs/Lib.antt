@@ -1,0 +1,13 @@
+pub mod Entries
+pub mod Extents
+pub mod FirstWrites
+pub mod GroupLaws
+pub mod Groups
+pub mod Growths
+pub mod Kept
+pub mod LaterPlaces
+pub mod Laws
+pub mod Parts
+pub mod Positions
+pub mod Retirements
+pub mod Traces
