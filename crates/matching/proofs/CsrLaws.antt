@@ -1,6 +1,6 @@
 -- How the first difference of two lists is found entry by entry.
 use Rattle.std.proofs.Common.{◌≡◌, ℕ, suc, zero, ◌+◌, ◌≤◌, List, [], ◌∷◌, length, drop, refl, None, Some, Ok}
-use Rattle.std.proofs.Common.{Err, sym, ap, ◌∙◌, arith, add-one}
+use Rattle.std.proofs.Common.{Err, sym, ap, ◌∙◌, arith}
 use Rattle.std.specs.Prelude.{slice_get}
 use Rattle.std.proofs.lemmas.List.{drop_all}
 use Rattle.std.specs.declared.option.Option.{Option}

@@ -58,8 +58,8 @@ fate_in before old head (body.Retire retire) h t x = old
 fate_in before old head body.Squash h t x = old
 fate_in before old head body.End h t x = old
 
--- The fate of byte x of the store of hart h under tag t: nothing so far; it waits in an Insert, of this number; or it was
--- performed at this place, by a plain Bypass or by the first Write of its line after its Insert.
+-- The fate of byte x of the store of hart h under tag t: nothing so far; it waits in an Insert, of this number; or it
+-- was performed at this place, by a plain Bypass or by the first Write of its line after its Insert.
 abbrev pub fate : List Message → ℕ → ℕ → ℕ → Fate
 fate [] h t x = Nothing
 fate (m ∷ before) h t x = fate_in before (fate before h t x) m.head m.body h t x

@@ -6,7 +6,7 @@ use Rattle.std.specs.Option.{option_or}
 use Rattle.msg_frames.specs.declared.message.Piece.{Piece}
 use Rattle.msg_frames.specs.declared.message.LineWrite.{LineWrite}
 use Rattle.msg_frames.specs.declared.message.Message.{Message}
-use Rattle.msg_frames.specs.Frames.{mask_bit}
+use Rattle.std.specs.Int.{bit_at}
 use Rattle.elf_image.specs.Images.{Loaded}
 use Rattle.rv_step.specs.Plans.{is_held}
 use Rattle.tandem_base.specs.FirstFault.{◌or_else◌}
@@ -68,7 +68,8 @@ is_within piece whole =
     nat_le whole.addr piece.addr
     && nat_le (piece.addr + length piece.bytes) (whole.addr + length whole.bytes)
 
--- byte k of a store is one of the piece, and was in an Insert or a plain Bypass; the fates are those of the store's bytes
+-- byte k of a store is one of the piece, and was in an Insert or a plain Bypass; the fates are those of the store's
+-- bytes
 abbrev pub is_again : (ℕ → Fate) → Piece → Stored → ℕ → Bool
 is_again fates piece s k = has piece (s.piece.addr + k) && not (is_fresh (fates k))
 
@@ -130,13 +131,14 @@ byte_waiting (e ∷ es) x = option_or (byte_in e.piece x) (byte_waiting es x)
 -- the byte that a Write reports at x, none where the mask has none
 abbrev pub byte_written : LineWrite → ℕ → Option ℕ
 byte_written write x =
-    if mask_bit write.mask (x - write.line) == 1 then Some (slice_index write.bytes (x - write.line)) else None
+    if bit_at write.mask (x - write.line) == 1 then Some (slice_index write.bytes (x - write.line)) else None
 
 -- the byte that differs
 abbrev pub merge_fault_in : List Held → LineWrite → Option ℕ → Option Fault
 merge_fault_in held write None = None
 merge_fault_in held write (Some k) =
-    Some (fault.MergeMismatch (write.line + k) (byte_waiting held (write.line + k)) (byte_written write (write.line + k)))
+    Some (fault.MergeMismatch (write.line + k) (byte_waiting held (write.line + k))
+    (byte_written write (write.line + k)))
 
 -- how far behind its first address is the first of the 64 bytes of a line that isn't what waits for it
 unfoldable pub first_unmerged : List Held → LineWrite → Option ℕ

@@ -1,6 +1,6 @@
 -- Bytes of memory, and the lines of 64 bytes that hold them.
 use Rattle.std.specs.Prelude.{ℕ, ◌+◌, ◌*◌, ◌/◌, ◌-◌, ◌%◌, ◌^◌, ◌&&◌, nat_eq, nat_lt, nat_le, not, length, slice_index}
-use Rattle.std.specs.Prelude.{Bool, true, false, Some, None, if◌then◌else◌}
+use Rattle.std.specs.Prelude.{Bool, Some, None, if◌then◌else◌}
 use Rattle.std.specs.declared.option.Option.{Option}
 use Rattle.std.specs.Option.{option_eq}
 use Rattle.msg_frames.specs.declared.message.Piece.{Piece}

@@ -139,7 +139,8 @@ bypass_fault_of bypass doing = if is_amo doing && not (is_some bypass) then Some
 -- the byte that differs
 abbrev pub amo_fault_in : ℕ → Piece → Piece → Option ℕ → Option Fault
 amo_fault_in addr result got None = None
-amo_fault_in addr result got (Some k) = Some (fault.AmoData (addr + k) (byte_in result (addr + k)) (byte_in got (addr + k)))
+amo_fault_in addr result got (Some k) =
+    Some (fault.AmoData (addr + k) (byte_in result (addr + k)) (byte_in got (addr + k)))
 
 -- the first of these bytes that isn't the result's
 abbrev pub amo_fault : ℕ → ℕ → Option Piece → Option Report → Option Fault

@@ -1,5 +1,5 @@
--- What the Open of a stream says, and the number and time of a message. A list of messages stands with the newest first,
--- so that one more message is put in front.
+-- What the Open of a stream says, and the number and time of a message. A list of messages stands with the newest
+-- first, so that one more message is put in front.
 use Rattle.std.specs.Prelude.{ℕ, ◌+◌, ◌/◌, ◌%◌, ◌==◌, Bool, Some, None, is_some, List, [], ◌∷◌, length}
 use Rattle.std.specs.declared.option.Option.{Option}
 use Rattle.std.specs.Option.{option_map_or}

@@ -187,7 +187,8 @@ fn first_unlike(inserts: &[Held], write: &LineWrite, count: u8) -> Option<u8>
     requires line { write.now.line % 64 ≡ 0 }
     requires count { count ≤ 64 }
     ensures bound { IfSome result (λ k. k < count) }
-    ensures value { result ≡ first_other (Parts.byte_waiting (filter (Tables.is_in write.now.line) (reverse inserts.now)))
+    ensures value { result
+        ≡ first_other (Parts.byte_waiting (filter (Tables.is_in write.now.line) (reverse inserts.now)))
         (Parts.byte_written write.now) write.now.line count }
 {
     let mut first = None;
@@ -204,7 +205,8 @@ fn first_unlike(inserts: &[Held], write: &LineWrite, count: u8) -> Option<u8>
 #[tactic(auto, unfolding(crate::specs::PartFaults::first_unmerged))]
 pub fn check_merge(inserts: &[Held], write: &LineWrite) -> Result<(), Fault>
     requires { write.now.line % 64 ≡ 0 }
-    ensures { result ≡ passed (Parts.merge_fault_of (filter (Tables.is_in write.now.line) (reverse inserts.now)) write.now) }
+    ensures { result ≡ passed
+        (Parts.merge_fault_of (filter (Tables.is_in write.now.line) (reverse inserts.now)) write.now) }
 {
     match first_unlike(inserts, write, 64) {
         Some(k) => {

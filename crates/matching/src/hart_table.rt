@@ -1,6 +1,7 @@
 //! What is kept of a hart, and what its messages make of it.
 
-ghost use Rattle.std.specs.Prelude.{◌≡◌, ◌<◌, ◌∷◌, [], ℕ, length, slice_index_or, IfOk, map, not, reverse, OnErr, OnOk, if◌then◌else◌};
+ghost use Rattle.std.specs.Prelude.{◌≡◌, ◌<◌, ◌∷◌, [], ℕ, length, slice_index_or, IfOk, map, not};
+ghost use Rattle.std.specs.Prelude.{reverse, OnErr, OnOk, if◌then◌else◌};
 ghost use Rattle.std.specs.List.{filter};
 ghost use Rattle.elf_image.specs.Images.{loaded_of};
 ghost use Rattle.msg_frames.specs.Frames.{Fits};
@@ -243,8 +244,9 @@ impl HartTable {
     fn insert(&mut self, n: u64, head: &Head, piece: &Piece) -> Result<(), AllocError>
         ensures kept { OnErr result (Tables.table_of self.new ≡ Tables.table_of self.old) }
         ensures taken { OnOk result (Tables.table_of self.new ≡ record (Tables.table_of self.old) {
-            inserts = Tables.held_of n head.now piece.now ∷ (Tables.table_of self.old).inserts;
-            stores = map (Tables.with_part (Fate.Waiting n) head.now.tag piece.now) (Tables.table_of self.old).stores }) }
+          inserts = Tables.held_of n head.now piece.now ∷ (Tables.table_of self.old).inserts;
+          stores = map (Tables.with_part (Fate.Waiting n) head.now.tag piece.now) (Tables.table_of self.old).stores;
+        }) }
     {
         self.inserts.push(held_from(n, head, piece))?;
         take_part(&mut self.stores, Fate::Waiting(n), head.tag, piece);
@@ -254,8 +256,9 @@ impl HartTable {
     /// Takes a Write, which is message `n`.
     fn write(&mut self, n: u64, head: &Head, write: &LineWrite)
         ensures { Tables.table_of self.new ≡ record (Tables.table_of self.old) {
-            inserts = filter (λ e. not (Tables.is_in write.now.line e)) (Tables.table_of self.old).inserts;
-            stores = map (Tables.with_line head.now.time n write.now.line) (Tables.table_of self.old).stores } }
+          inserts = filter (λ e. not (Tables.is_in write.now.line e)) (Tables.table_of self.old).inserts;
+          stores = map (Tables.with_line head.now.time n write.now.line) (Tables.table_of self.old).stores;
+        } }
     {
         drop_line(&mut self.inserts, write.line);
         take_line(&mut self.stores, head.time, n, write.line);
@@ -265,8 +268,9 @@ impl HartTable {
     fn bypass(&mut self, n: u64, head: &Head, piece: &Piece)
         ensures { Tables.table_of self.new ≡ (if Tags.is_younger self.old.last head.now.tag
             then Tables.table_of self.old else record (Tables.table_of self.old) {
-            stores = map (Tables.with_part (Fate.Done (record { time = head.now.time; message = n; insert = n }))
-                head.now.tag piece.now) (Tables.table_of self.old).stores }) }
+              stores = map (Tables.with_part (Fate.Done (record { time = head.now.time; message = n; insert = n }))
+                  head.now.tag piece.now) (Tables.table_of self.old).stores;
+            }) }
     {
         if !self.is_early(head.tag) {
             let place = Place {

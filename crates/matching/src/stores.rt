@@ -1,6 +1,7 @@
 //! The stores that retired, what became of their bytes, and the Inserts that wait.
 
-ghost use Rattle.std.specs.Prelude.{◌≡◌, ◌+◌, ◌==◌, ◌&&◌, ◌<◌, ◌≤◌, not, reverse, map, true, IfSome, OnErr, OnOk, slice_index_or};
+ghost use Rattle.std.specs.Prelude.{◌≡◌, ◌+◌, ◌==◌, ◌&&◌, ◌<◌, ◌≤◌, not, reverse, map, true};
+ghost use Rattle.std.specs.Prelude.{IfSome, OnErr, OnOk, slice_index_or};
 ghost use Rattle.std.specs.Prelude.{is_some, if◌then◌else◌};
 ghost use Rattle.std.specs.List.{filter};
 ghost use Rattle.std.specs.Option.{option_map};
@@ -149,7 +150,8 @@ impl Tracked {
     fn line_fate(&self, time: u64, n: u64, line: u64, k: u8) -> Fate
         requires { k < 8 }
         ensures { result
-            ≡ (if line == line_of (self.now.store.piece.addr + k) then Fates.drained time n (Tables.fate_in_store self.now k)
+            ≡ (if line == line_of (self.now.store.piece.addr + k) then Fates.drained time n
+            (Tables.fate_in_store self.now k)
             else Tables.fate_in_store self.now k) }
     {
         if u128::from(line) == line_at(self.address(k)) {
@@ -275,7 +277,8 @@ pub(crate) fn keep_store(
 ) -> Result<(), AllocError>
     ensures kept { OnErr result (reverse stores.new.items ≡ reverse stores.old.items) }
     ensures taken { OnOk result (reverse stores.new.items
-        ≡ with_new (option_map Tables.untouched (new_store (doing_seen what.now) tag piece.now)) (reverse stores.old.items)) }
+        ≡ with_new (option_map Tables.untouched (new_store (doing_seen what.now) tag piece.now))
+        (reverse stores.old.items)) }
 {
     match (what, piece) {
         (What::Store(..), Some(piece)) => stores.push(Tracked::new(Stored { tag, piece: *piece }))?,

@@ -44,7 +44,8 @@ fn config_in_flags(flags: u8) -> Config
 }
 
 impl Matching {
-    ghost use Rattle.std.specs.Prelude.{◌≡◌, ◌+◌, ◌<◌, ℕ, List, [], ◌∷◌, reverse, true, IfOk, IfNone, OnSome, OnErr, OnOk};
+    ghost use Rattle.std.specs.Prelude.{◌≡◌, ◌+◌, ◌<◌, ℕ, List, [], ◌∷◌, reverse, true, IfOk};
+    ghost use Rattle.std.specs.Prelude.{IfNone, OnSome, OnErr, OnOk};
     ghost use Rattle.std.specs.Option.{option_map_or};
     ghost use Rattle.elf_image.specs.Images.{Loaded, loaded_of};
     ghost use Rattle.msg_frames.specs.Frames.{Fits};
@@ -169,7 +170,7 @@ impl Matching {
 
     /// What is first wrong with message `number`, after those that were taken. `number` is 1 for the
     /// first message, and one more for each that was taken.
-    pub fn check(&self, image: &Image, number: u64, message: &Message) -> Result<(), Fault>
+    fn check(&self, image: &Image, number: u64, message: &Message) -> Result<(), Fault>
         requires { Fits message.now }
         ensures known { OnOk result (message.now.head.hart < 16) }
         ensures fault { (before : List Message) → Stands (loaded_of image.now) self.now before →
@@ -184,8 +185,8 @@ impl Matching {
         requires { Fits message.now }
         ensures known { self.new.known
             ≡ option_map_or (λ info. info.harts) (Settings.open_of message.now.body) self.old.known }
-        ensures config { self.new.config
-            ≡ option_map_or (λ info. Settings.config_in info.flags) (Settings.open_of message.now.body) self.old.config }
+        ensures config { self.new.config ≡ option_map_or (λ info. Settings.config_in info.flags)
+            (Settings.open_of message.now.body) self.old.config }
         ensures time { self.new.time ≡ message.now.head.time }
         ensures early { self.new.early ≡ self.old.early }
         ensures harts { self.new.harts ≡ self.old.harts }
@@ -221,7 +222,12 @@ impl Matching {
     }
 
     /// Takes message `number` into the early Bypasses, or into the table of its hart.
-    fn take_report(&mut self, image: &Image, number: u64, message: &Message) -> Result<(), AllocError>
+    fn take_report(
+        &mut self,
+        image: &Image,
+        number: u64,
+        message: &Message,
+    ) -> Result<(), AllocError>
         requires known { message.now.head.hart < 16 }
         requires fits { Fits message.now }
         ensures kept { OnErr result (IsSame self.old self.new) }
@@ -265,7 +271,12 @@ impl Matching {
 
     /// Takes message `number`, or says what is first wrong with it. After a fault, and where memory is
     /// refused, nothing has changed.
-    pub fn take(&mut self, image: &Image, number: u64, message: &Message) -> Result<Option<Fault>, AllocError>
+    pub fn take(
+        &mut self,
+        image: &Image,
+        number: u64,
+        message: &Message,
+    ) -> Result<Option<Fault>, AllocError>
         requires { Fits message.now }
         ensures fault { (before : List Message) → Stands (loaded_of image.now) self.old before →
             number ≡ number_after before →

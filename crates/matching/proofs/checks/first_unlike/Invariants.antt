@@ -8,5 +8,6 @@ use Rattle.matching.proofs.checks.first_unlike.Given as goal
 abbrev pub invariant-loop-k : goal.invariant-loop-k
 invariant-loop-k l =
     (l.first
-    ≡ first_other (byte_waiting (filter (is_in l.write.line) (reverse l.inserts))) (byte_written l.write) l.write.line l.k)
+    ≡ first_other (byte_waiting (filter (is_in l.write.line) (reverse l.inserts))) (byte_written l.write) l.write.line
+    l.k)
     × IfSome l.first (λ k. k < l.k)

@@ -1,5 +1,4 @@
-use Rattle.std.proofs.Common.{sym, ◌∙◌, arith}
-use Rattle.matching.proofs.CsrLaws.{csr_broken, csr_passed, csr_ended}
+use Rattle.matching.proofs.CsrLaws.{csr_broken, csr_passed}
 use Rattle.matching.proofs.compare.check_csrs.Goals as goal
 
 pub returns-in-Err : goal.returns-in-Err

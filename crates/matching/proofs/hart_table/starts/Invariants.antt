@@ -7,4 +7,5 @@ use Rattle.matching.proofs.hart_table.starts.Given as goal
 abbrev pub invariant-loop-number : goal.invariant-loop-number
 invariant-loop-number l =
     (length l.harts.items ≡ l.number)
-    × ((h : ℕ) (other : HartTable) → h < l.number → table_of (slice_index_or l.harts.items h other) ≡ table_at (loaded_of l.image) [] h)
+    × ((h : ℕ) (other : HartTable) → h < l.number
+    → table_of (slice_index_or l.harts.items h other) ≡ table_at (loaded_of l.image) [] h)

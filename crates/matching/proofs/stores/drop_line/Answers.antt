@@ -7,5 +7,6 @@ use Rattle.matching.proofs.stores.drop_line.Goals as goal
 
 pub returns : goal.returns
 returns c =
-    ap reverse (filter_same _ (λ (e : Held). not (is_in c.args.line e)) _ (λ x b f r. search rules) _ _ c.retain.ensures.filtered)
+    ap reverse (filter_same _ (λ (e : Held). not (is_in c.args.line e)) _ (λ x b f r. search rules) _ _
+    c.retain.ensures.filtered)
     ∙ filter-reverse (λ (e : Held). not (is_in c.args.line e)) c.args.inserts.now.items

@@ -1,5 +1,5 @@
 use Rattle.std.proofs.Common.{◌≡◌}
-use Rattle.matching.specs.Tables.{with_part, with_line}
+use Rattle.matching.specs.Tables.{with_line}
 use Rattle.matching.proofs.Mapped.{mapped}
 use Rattle.matching.proofs.stores.take_line.Given as goal
 

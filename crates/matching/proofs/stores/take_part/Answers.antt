@@ -1,8 +1,9 @@
-use Rattle.std.proofs.Common.{◌≡◌, ◌<◌, ◌++◌, List, [], ap, sym, ◌∙◌, length, map, reverse, take, drop, slice_set, get_or, arith}
+use Rattle.std.proofs.Common.{◌≡◌, ◌<◌, ◌++◌, List, [], ap, ◌∙◌, length, map, reverse, take, drop, slice_set}
+use Rattle.std.proofs.Common.{get_or, arith}
 use Rattle.std.proofs.lemmas.List.{append-nil, drop_all, take_all}
 use Rattle.matching.specs.declared.stores.Tracked.{Tracked}
 use Rattle.matching.specs.Tables.{with_part}
-use Rattle.matching.proofs.Mapped.{mapped, mapped_more, mapped_all, length-mapped, map-reversed}
+use Rattle.matching.proofs.Mapped.{mapped_more, mapped_all, length-mapped, map-reversed}
 use Rattle.matching.proofs.stores.take_part.Goals as goal
 
 pub loop-tracked-init : goal.loop-tracked-init
@@ -30,7 +31,8 @@ returns c =
     let inv = c.loop-tracked.invariant in
     let n = ap length inv in
     let sized = length-mapped f i items in
-    let all : c.loop-tracked.tracked-items ≡ map f items = inv ∙ mapped_all f i items (omega (arith, n, sized, c.loop-tracked-test.false)) in
+    let all : c.loop-tracked.tracked-items ≡ map f items =
+    inv ∙ mapped_all f i items (omega (arith, n, sized, c.loop-tracked-test.false)) in
     let ti = c.loop-tracked.tracked-items in
     let first = ap length c.deref_mut-tracked-items.ensures.value in
     let len = c.deref_mut-tracked-items.ensures.len in

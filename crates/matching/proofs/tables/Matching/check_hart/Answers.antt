@@ -16,6 +16,9 @@ returns c before s no_end =
     let m = c.args.message.now in
     let e : c.index.result.now ≡ slice_index_or old.harts.items m.head.hart c.index.result.now = search rules in
     c.check.ensures
-    ∙ ap (λ (r : List Report). passed (table_fault image old.config (reverse r) (table_of c.index.result.now) m.head m.body)) c.deref.ensures.value
-    ∙ ap (λ (t : HartTable). passed (table_fault image old.config (reverse old.early.items) (table_of t) m.head m.body)) e
-    ∙ ap (λ (f : Option Fault). passed f) (fault_stands image old before m.head m.body c.index.result.now s c.requires.known no_end)
+    ∙ ap (λ (r : List Report). passed
+    (table_fault image old.config (reverse r) (table_of c.index.result.now) m.head m.body)) c.deref.ensures.value
+    ∙ ap (λ (t : HartTable). passed (table_fault image old.config (reverse old.early.items) (table_of t) m.head m.body))
+    e
+    ∙ ap (λ (f : Option Fault). passed f)
+    (fault_stands image old before m.head m.body c.index.result.now s c.requires.known no_end)

@@ -12,7 +12,8 @@ use Rattle.matching.proofs.tables.Matching.check_store.Goals as goal
 pub returns-in-Ok : goal.returns-in-Ok
 returns-in-Ok c image before s e =
     let h = c.args.hart in
-    let none : unwritten_below image before h ≡ None = passed_ok (unwritten_below image before h) _ (sym e ∙ c.in-Ok.is) in
+    let none : unwritten_below image before h ≡ None =
+    passed_ok (unwritten_below image before h) _ (sym e ∙ c.in-Ok.is) in
     let d : c.index.result.now ≡ slice_index_or c.args.self.now.harts.items h c.index.result.now = search rules in
     c.check_written.ensures
     ∙ ap (λ (t : HartTable). passed (left_fault h (table_of t))) d
@@ -24,6 +25,7 @@ returns-in-Ok c image before s e =
 pub returns-in-Err : goal.returns-in-Err
 returns-in-Err c image before s e =
     let h = c.args.hart in
-    let some : unwritten_below image before h ≡ Some c.in-Err.fault = passed_err (unwritten_below image before h) c.in-Err.fault (sym e ∙ c.in-Err.is) in
+    let some : unwritten_below image before h ≡ Some c.in-Err.fault =
+    passed_err (unwritten_below image before h) c.in-Err.fault (sym e ∙ c.in-Err.is) in
     ap (λ (f : Option Fault). passed (f or_else unwritten_fault_of image before h)) (sym some)
     ∙ ap (λ (f : Option Fault). passed f) (sym (below_more image before h))

@@ -1,4 +1,4 @@
-use Rattle.std.proofs.Common.{◌≡◌, ap, sym}
+use Rattle.std.proofs.Common.{ap, sym}
 use Rattle.std.specs.declared.option.Option.{Option}
 use Rattle.tandem_base.specs.FirstFault.{passed}
 use Rattle.verdict_report.specs.declared.fault.Fault.{Fault}

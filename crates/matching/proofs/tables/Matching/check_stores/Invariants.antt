@@ -8,4 +8,5 @@ use Rattle.matching.proofs.tables.Matching.check_stores.Given as goal
 
 abbrev pub invariant-loop-hart : goal.invariant-loop-hart
 invariant-loop-hart l =
-    (image : Loaded) (before : List Message) → Stands image l.self before → l.checked ≡ passed (unwritten_below image before l.hart)
+    (image : Loaded) (before : List Message) → Stands image l.self before
+    → l.checked ≡ passed (unwritten_below image before l.hart)
