@@ -1,0 +1,76 @@
+//! The bytes of a line, merged.
+
+ghost use Rattle.std.specs.Prelude.{◌≡◌, ◌+◌, ◌*◌, ◌/◌, ◌<◌, ◌≤◌, ◌==◌, ℕ, length, None};
+ghost use Rattle.msg_frames.specs.Frames.{mask_bit};
+ghost use Rattle.merge_buffer.specs.Parts.{IsWithinLine, byte_of, or_else};
+ghost use Rattle.merge_buffer.specs.Chains.{merged_byte};
+
+use msg_frames::Piece;
+
+/// The bytes of a line that wait. Bit k of the mask is byte k; the bytes outside it are 0.
+#[derive(Clone, Copy, Debug)]
+pub struct Merged {
+    pub mask: u64,
+    pub bytes: [u8; 64],
+}
+
+/// Whether bit `k` of a mask is set.
+pub fn is_set(mask: u64, k: u8) -> bool
+    requires { k < 64 }
+    ensures { result ≡ (mask_bit mask k == 1) }
+{
+    (mask >> k) % 2 == 1
+}
+
+impl Merged {
+    ghost use Rattle.std.specs.Prelude.{◌≡◌, ◌≢◌, ◌+◌, ◌*◌, ◌/◌, ◌<◌, ◌≤◌, ◌==◌, ℕ, length, None, Some, if◌then◌else◌};
+    ghost use Rattle.merge_buffer.specs.Parts.{IsWithinLine, byte_of, or_else};
+    ghost use Rattle.merge_buffer.specs.Chains.{merged_byte};
+
+    /// A line in which nothing waits.
+    pub fn new() -> Merged
+        ensures { (k : ℕ) → merged_byte result k ≡ None }
+    {
+        Merged {
+            mask: 0,
+            bytes: [0; 64],
+        }
+    }
+
+    /// Byte `k`, None where nothing waits.
+    pub fn byte(&self, k: u8) -> Option<u8>
+        requires { k < 64 }
+        ensures { result ≡ merged_byte self.now k }
+    {
+        if is_set(self.mask, k) {
+            Some(self.bytes[k as usize])
+        } else {
+            None
+        }
+    }
+
+    /// Puts a byte where none is yet.
+    pub fn add_byte(&mut self, k: u8, byte: u8)
+        requires { k < 64 }
+        ensures there { merged_byte self.new k ≡ or_else (merged_byte self.old k) (Some byte) }
+        ensures others { (j : ℕ) → j ≢ k → merged_byte self.new j ≡ merged_byte self.old j }
+    {
+        if !is_set(self.mask, k) {
+            self.mask |= 1 << k;
+            self.bytes[k as usize] = byte;
+        }
+    }
+
+    /// Puts the bytes of a piece where none is yet.
+    pub fn add(&mut self, line: u64, piece: &Piece)
+        requires within { IsWithinLine piece.now }
+        requires line { piece.now.addr / 64 ≡ line }
+        ensures { (k : ℕ) → k < 64 →
+            merged_byte self.new k ≡ or_else (merged_byte self.old k) (byte_of piece.now (line * 64 + k)) }
+    {
+        let first = (piece.addr % 64) as u8;
+        for k in 0..piece.bytes.len() {
+            self.add_byte(first + k, piece.bytes.byte(k));
+        }
+    }
+}
