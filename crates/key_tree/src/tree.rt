@@ -48,7 +48,8 @@ impl KeyTree {
 
     /// The number under a key.
     pub fn get(&self, key: u64) -> Option<usize>
-        ensures { result ≡ number_at self.now key }
+        ensures number { result ≡ number_at self.now key }
+        ensures distinct { AreDistinct self.now.entries }
     {
         nodes::number(&self.nodes, self.root, key)
     }
@@ -56,7 +57,6 @@ impl KeyTree {
     /// How many keys there are.
     pub fn len(&self) -> usize
         ensures count { result ≡ length self.now.entries }
-        ensures distinct { AreDistinct self.now.entries }
         ensures room { length self.now.entries ≤ self.now.capacity }
     {
         self.nodes.len()

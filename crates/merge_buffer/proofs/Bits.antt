@@ -1,8 +1,7 @@
 -- One bit of a mask is set.
-use Rattle.std.proofs.Common.{ℕ, zero, suc, ◌≡◌, ◌≢◌, ◌+◌, ◌-◌, ◌*◌, ◌/◌, ◌%◌, ◌^◌, ◌<◌, ◌==◌, ◌⊎◌, inl, inr, Bool, true}
-use Rattle.std.proofs.Common.{false, bit_or, refl, sym, ap, ◌∙◌, subst, arith}
-use Rattle.std.proofs.lemmas.Bool.Decides.{nat_tests}
-use Rattle.std.proofs.lemmas.Nat.{or_shr, or_mod, one_shl, shl-shr, pow-add, pow_pos, pow_below, mod_below}
+use Rattle.std.proofs.Common.{ℕ, zero, suc, ◌≡◌, ◌≢◌, ◌+◌, ◌-◌, ◌*◌, ◌/◌, ◌%◌, ◌^◌, ◌<◌, ◌⊎◌, inl, inr}
+use Rattle.std.proofs.Common.{bit_or, refl, sym, ap, ◌∙◌, arith}
+use Rattle.std.proofs.lemmas.Nat.{or_shr, or_mod, one_shl, shl-shr, pow-add, pow_below, mod_below}
 use Rattle.msg_frames.specs.Frames.{mask_bit}
 
 -- a bit of two masks together
@@ -27,7 +26,7 @@ even x = omega arith
 lower : (k j d : ℕ) → k ≡ d + 1 + j → mask_bit (2 ^ k) j ≡ 0
 lower k j d e =
     let s : 2 ^ k ≡ 2 ^ d * 2 * 2 ^ j = ap (λ (x : ℕ). 2 ^ x) e ∙ pow-add 2 (d + 1) j
-        ∙ ap (λ (x : ℕ). x * 2 ^ j) (pow-add 2 d 1) in
+    ∙ ap (λ (x : ℕ). x * 2 ^ j) (pow-add 2 d 1) in
     ap (λ (x : ℕ). x / 2 ^ j % 2) s ∙ ap (λ (x : ℕ). x % 2) (shl-shr (2 ^ d * 2) j) ∙ even (2 ^ d)
 
 other : (k j : ℕ) → j ≢ k → mask_bit (2 ^ k) j ≡ 0

@@ -1,6 +1,6 @@
 -- A line and one byte or piece more.
-use Rattle.std.proofs.Common.{ℕ, ◌≡◌, ◌≢◌, ◌+◌, ◌-◌, ◌*◌, ◌/◌, ◌%◌, ◌^◌, ◌<◌, ◌≤◌, ◌==◌, ◌⊎◌, inl, inr, Bool, true, false}
-use Rattle.std.proofs.Common.{List, length, get_or, set, Option, None, Some, not, bit_or, refl, sym, ap, ◌∙◌, subst, arith}
+use Rattle.std.proofs.Common.{ℕ, ◌≡◌, ◌≢◌, ◌+◌, ◌-◌, ◌*◌, ◌/◌, ◌%◌, ◌^◌, ◌<◌, ◌≤◌, ◌==◌, inl, inr, Bool, false}
+use Rattle.std.proofs.Common.{length, get_or, set, Option, None, Some, bit_or, refl, sym, ap, ◌∙◌, subst, arith}
 use Rattle.std.proofs.Common.{if◌then◌else◌}
 use Rattle.std.proofs.lemmas.Bool.{cases_eq}
 use Rattle.std.proofs.lemmas.Bool.Decides.{nat_tests}
@@ -9,7 +9,7 @@ use Rattle.tandem_base.specs.Extents.{is_among}
 use Rattle.msg_frames.specs.declared.message.Piece.{Piece}
 use Rattle.msg_frames.specs.Frames.{mask_bit}
 use Rattle.merge_buffer.specs.declared.merging.Merged.{Merged}
-use Rattle.merge_buffer.specs.Parts.{or_else, byte_of, IsWithinLine}
+use Rattle.merge_buffer.specs.Parts.{or_else}
 use Rattle.merge_buffer.specs.Chains.{merged_byte}
 use Rattle.merge_buffer.proofs.Bits.{set_there, set_others}
 
@@ -90,7 +90,7 @@ module _ (piece : Piece) (old now new : Merged) (line k byte : ℕ)
       here =
           let a = so_far (piece.addr % 64 + k) (omega arith) in
           let b : merged_byte now (piece.addr % 64 + k) ≡ merged_byte old (piece.addr % 64 + k) = a
-              ∙ ap (or_else (merged_byte old (piece.addr % 64 + k))) not_yet
-              ∙ or_else_none (merged_byte old (piece.addr % 64 + k)) in
+          ∙ ap (or_else (merged_byte old (piece.addr % 64 + k))) not_yet
+          ∙ or_else_none (merged_byte old (piece.addr % 64 + k)) in
           there ∙ ap (λ (o : Option ℕ). or_else o (Some byte)) b
           ∙ ap (or_else (merged_byte old (piece.addr % 64 + k))) (sym now_there)

@@ -1,7 +1,6 @@
 -- Walks along the Inserts of a line.
-use Rattle.std.proofs.Common.{ℕ, ◌≡◌, ◌≢◌, ◌+◌, ◌*◌, ◌/◌, ◌<◌, ◌≤◌, ◌==◌, ◌⊎◌, inl, inr, Bool, true, false, List, [], ◌∷◌}
-use Rattle.std.proofs.Common.{◌++◌, length, filter, not, Option, None, Some, IsSome, refl, sym, ap, ◌∙◌, subst, arith, add-zero}
-use Rattle.std.proofs.lemmas.Bool.{cases_eq}
+use Rattle.std.proofs.Common.{ℕ, ◌≡◌, ◌≢◌, ◌+◌, ◌*◌, ◌<◌, List, [], ◌∷◌}
+use Rattle.std.proofs.Common.{◌++◌, length, Option, None, Some, IsSome, refl, sym, ap, ◌∙◌, subst, arith, add-zero}
 use Rattle.std.proofs.lemmas.List.{append-nil, append_assoc}
 use Rattle.merge_buffer.specs.declared.waiting.Part.{Part}
 use Rattle.merge_buffer.specs.declared.waiting.Waiting.{Waiting}
@@ -111,7 +110,7 @@ module _ (at : ℕ → Option Waiting) (head here : Option ℕ) (line : ℕ) (me
           same = λ full f k l.
               ap (λ (o : Option ℕ). or_else o (latest_byte s.tail (line * 64 + k))) (add k l)
               ∙ or_else_assoc (merged_byte merged k) (byte_of w.part.piece (line * 64 + k))
-                  (latest_byte s.tail (line * 64 + k))
+              (latest_byte s.tail (line * 64 + k))
               ∙ ap (λ (ps : List Part). or_else (merged_byte merged k) (latest_byte ps (line * 64 + k))) (sym s.is)
               ∙ m.same full f k l;
         }
@@ -169,10 +168,10 @@ chain_without at new i w head (p ∷ ps) there others b c = (
   c.1,
   c.2,
   others c.0 (λ s. (
-    let same : c.1 ≡ w = same_entry at c.0 i c.1 w s c.3 there in
-    let number : w.part.number ≡ p.number = ap (λ (x : Waiting). x.part.number) (sym same)
-        ∙ ap (λ (x : Part). x.number) c.4 in
-    omega (arith, b.0, number))) ∙ c.3,
+      let same : c.1 ≡ w = same_entry at c.0 i c.1 w s c.3 there in
+      let number : w.part.number ≡ p.number = ap (λ (x : Waiting). x.part.number) (sym same)
+      ∙ ap (λ (x : Part). x.number) c.4 in
+      omega (arith, b.0, number))) ∙ c.3,
   c.4,
   chain_without at new i w c.1.before ps there others b.1 c.5,
 )
@@ -190,8 +189,8 @@ pub draining_begins : (at : ℕ → Option Waiting) (head : Option ℕ) (line : 
 draining_begins at head line before count c = record {
   rest = c;
   same = λ full f. (
-    let one = chain_one at head c.parts full c.chain f in
-    (ap (λ (ps : List Part). before ++ ps) (sym one), ap (λ (ps : List Part). count + length ps) (sym one)));
+      let one = chain_one at head c.parts full c.chain f in
+      (ap (λ (ps : List Part). before ++ ps) (sym one), ap (λ (ps : List Part). count + length ps) (sym one)));
   keep = λ i w e d. e;
 }
 
@@ -223,13 +222,13 @@ module _ (old now : ℕ → Option Waiting) (head here : Option ℕ) (line : ℕ
             on = s.on;
           };
           same = λ full f. (
-            let t = m.same full f in (
-              t.0 ∙ ap (λ (ps : List Part). after ++ ps) s.is ∙ sym (append_assoc after (w.part ∷ []) s.tail),
-              omega (arith, t.1, one, ap length s.is),
-            ));
+              let t = m.same full f in (
+                t.0 ∙ ap (λ (ps : List Part). after ++ ps) s.is ∙ sym (append_assoc after (w.part ∷ []) s.tail),
+                omega (arith, t.1, one, ap length s.is),
+              ));
           keep = λ k v f d. (
-            let was = m.keep k v f d in
-            others k (λ q. (
+              let was = m.keep k v f d in
+              others k (λ q. (
               let same : v ≡ w = same_entry now k i v w q was there in
               d (ap (λ (x : Waiting). line_of x.part) same ∙ s.line_is))) ∙ was);
         }

@@ -1,23 +1,16 @@
 -- Inserts that wait, the newest first.
-use Rattle.std.specs.Prelude.{ℕ, ◌≡◌, ◌+◌, ◌-◌, ◌*◌, ◌/◌, ◌%◌, ◌<◌, ◌≤◌, ◌==◌, not, Bool, true, false, List, [], ◌∷◌}
-use Rattle.std.specs.Prelude.{length, filter, Option, None, Some, slice_index, if◌then◌else◌}
+use Rattle.std.specs.Prelude.{ℕ, ◌≡◌, ◌≢◌, ◌+◌, ◌-◌, ◌/◌, ◌%◌, ◌<◌, ◌≤◌, ◌==◌, true, List, [], ◌∷◌}
+use Rattle.std.specs.Prelude.{length, Option, None, Some, slice_index, if◌then◌else◌}
 use Rattle.tandem_base.specs.Extents.{is_among}
 use Rattle.msg_frames.specs.declared.message.Piece.{Piece}
 use Rattle.msg_frames.specs.declared.message.LineWrite.{LineWrite}
 use Rattle.msg_frames.specs.Frames.{mask_bit}
+use Rattle.merge_buffer.specs.declared.merging.Difference.{Difference}
 use Rattle.merge_buffer.specs.declared.waiting.Part.{Part}
 
 -- the number of the line of an Insert
 abbrev pub line_of : Part → ℕ
 line_of p = p.piece.addr / 64
-
--- those of a line
-abbrev pub on_line : ℕ → List Part → List Part
-on_line line ps = filter (λ p. line_of p == line) ps
-
--- those of the other lines
-abbrev pub off_line : ℕ → List Part → List Part
-off_line line ps = filter (λ p. not (line_of p == line)) ps
 
 -- the first, or else the second
 abbrev pub or_else : Option ℕ → Option ℕ → Option ℕ
@@ -57,3 +50,27 @@ IsWithinLine piece = piece.addr % 64 + length piece.bytes ≤ 64
 abbrev pub AllOn : ℕ → List Part → Type 0
 AllOn line [] = Unit {0}
 AllOn line (p ∷ ps) = (line_of p ≡ line) × IsWithinLine p.piece × AllOn line ps
+
+-- the byte that waits at x, and the one that is reported there, are the same
+abbrev pub SameByte : List Part → LineWrite → ℕ → Type 0
+SameByte ps write x = latest_byte ps x ≡ reported_byte write x
+
+-- they are the same at each address of the line
+abbrev pub Matches : List Part → LineWrite → Type 0
+Matches ps write = (x : ℕ) → is_among write.line 64 x ≡ true → SameByte ps write x
+
+-- they differ, and this is the lowest address at which they do
+pub record DiffersAt (ps : List Part) (write : LineWrite) (d : Difference) : Type 0 where
+  pub inside : is_among write.line 64 d.at ≡ true
+  pub waits : latest_byte ps d.at ≡ d.want
+  pub reported : reported_byte write d.at ≡ d.got
+  pub differ : d.want ≢ d.got
+  pub lowest : (x : ℕ) → write.line ≤ x → x < d.at → SameByte ps write x
+
+-- those that wait on a line, after one more Insert
+abbrev pub with_part : Part → ℕ → List Part → List Part
+with_part p line ps = if line == line_of p then p ∷ ps else ps
+
+-- those that wait on a line, after a Write of a line
+abbrev pub without_line : ℕ → ℕ → List Part → List Part
+without_line written line ps = if line == written then [] else ps

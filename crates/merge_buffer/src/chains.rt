@@ -6,8 +6,8 @@ ghost use Rattle.slab.specs.Slab.{get, slab_len, HasRoomFor};
 ghost use Rattle.key_tree.specs.Entries.{number_at};
 ghost use Rattle.merge_buffer.specs.declared.waiting.Part.{Part as Kept};
 ghost use Rattle.merge_buffer.specs.declared.waiting.Waiting.{Waiting as Entry};
-ghost use Rattle.merge_buffer.specs.Parts.{line_of, latest_byte, Falls, AllOn, IsWithinLine};
-ghost use Rattle.merge_buffer.specs.Chains.{IsChain, IsChained, merged_byte};
+ghost use Rattle.merge_buffer.specs.Parts.{line_of, latest_byte, with_part, AllBelow, Falls, AllOn, IsWithinLine};
+ghost use Rattle.merge_buffer.specs.Chains.{IsChain, IsChained, AreChained, parts_on, merged_byte};
 
 use crate::merging::Merged;
 use crate::waiting::{Part, Waiting};
@@ -23,6 +23,29 @@ fn entry_at(waiting: &Slab<Waiting>, at: usize) -> &Waiting
         Some(entry) => entry,
         None => unreachable!(),
     }
+}
+
+/// Adds an Insert, the newest of its line.
+pub fn add(waiting: &mut Slab<Waiting>, newest: &mut KeyTree, part: &Part)
+    requires chained { AreChained waiting.old newest.old }
+    requires room { HasRoomFor waiting.old 1 }
+    requires lines { slab_len waiting.old < newest.old.capacity }
+    requires within { IsWithinLine part.now.piece }
+    requires newer { AllBelow part.now.number (parts_on newest.old.capacity waiting.old newest.old (line_of part.now)) }
+    ensures chained { AreChained waiting.new newest.new }
+    ensures parts { (line : ℕ) → parts_on newest.old.capacity waiting.new newest.new line
+        ≡ with_part part.now line (parts_on newest.old.capacity waiting.old newest.old line) }
+    ensures len { slab_len waiting.new ≡ slab_len waiting.old + 1 }
+    ensures capacity { waiting.new.capacity ≡ waiting.old.capacity }
+    ensures lines { newest.new.capacity ≡ newest.old.capacity }
+{
+    let line = part.piece.addr / 64;
+    let before = newest.get(line);
+    let at = waiting.insert_reserved(Waiting {
+        part: *part,
+        before,
+    });
+    newest.put(line, at);
 }
 
 /// The bytes of the Inserts of a line, the newest over the others.

@@ -2,7 +2,10 @@
 #![tactic(auto)]
 
 mod chains;
+mod lines;
 mod merging;
 mod waiting;
 
+pub use lines::{Drain, Lines, Took};
+pub use merging::Difference;
 pub use waiting::Part;

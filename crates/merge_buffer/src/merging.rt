@@ -2,10 +2,11 @@
 
 ghost use Rattle.std.specs.Prelude.{◌≡◌, ◌+◌, ◌*◌, ◌/◌, ◌<◌, ◌≤◌, ◌==◌, ℕ, length, None};
 ghost use Rattle.msg_frames.specs.Frames.{mask_bit};
-ghost use Rattle.merge_buffer.specs.Parts.{IsWithinLine, byte_of, or_else};
-ghost use Rattle.merge_buffer.specs.Chains.{merged_byte};
+ghost use Rattle.std.specs.Prelude.{◌%◌, IfSome, IfNone};
+ghost use Rattle.merge_buffer.specs.Parts.{IsWithinLine, byte_of, or_else, reported_byte};
+ghost use Rattle.merge_buffer.specs.Chains.{merged_byte, IsFirstDifference};
 
-use msg_frames::Piece;
+use msg_frames::{LineWrite, Piece};
 
 /// The bytes of a line that wait. Bit k of the mask is byte k; the bytes outside it are 0.
 #[derive(Clone, Copy, Debug)]
@@ -72,5 +73,49 @@ impl Merged {
         for k in 0..piece.bytes.len() {
             self.add_byte(first + k, piece.bytes.byte(k));
         }
+    }
+}
+
+/// Where a Write differs from what waits: the address, the byte that waits and the one that is
+/// reported, None where there is none.
+#[derive(Clone, Copy, Debug, PartialEq, Eq)]
+pub struct Difference {
+    pub at: u64,
+    pub want: Option<u8>,
+    pub got: Option<u8>,
+}
+
+/// The lowest address at which a Write differs from the bytes that wait.
+pub fn first_difference(merged: &Merged, write: &LineWrite) -> Option<Difference>
+    requires { write.now.line % 64 ≡ 0 }
+    ensures none { IfNone result ((k : ℕ) → k < 64 → merged_byte merged.now k ≡ reported_byte write.now (write.now.line + k)) }
+    ensures some { IfSome result (λ d. IsFirstDifference merged.now write.now d) }
+{
+    if merged.mask == write.mask && merged.bytes == write.bytes {
+        return None;
+    }
+    for k in 0..64 {
+        let want = merged.byte(k);
+        let got = reported(write, k);
+        if want != got {
+            return Some(Difference {
+                at: write.line + u64::from(k),
+                want,
+                got,
+            });
+        }
+    }
+    None
+}
+
+/// Byte `k` of a Write, None where it isn't in the mask.
+fn reported(write: &LineWrite, k: u8) -> Option<u8>
+    requires { k < 64 }
+    ensures { result ≡ reported_byte write.now (write.now.line + k) }
+{
+    if is_set(write.mask, k) {
+        Some(write.bytes[k as usize])
+    } else {
+        None
     }
 }

@@ -1,7 +1,6 @@
-use Rattle.std.proofs.Common.{ℕ, ◌≡◌, ◌+◌, ◌≤◌, ◌++◌, List, [], ◌∷◌, ap, sym, subst, ◌∙◌, refl, None, rules, arith, vec_len, vec_capacity}
+use Rattle.std.proofs.Common.{◌∙◌, refl, arith}
 use Rattle.slab.specs.Slab.{get, slab_len}
-use Rattle.merge_buffer.specs.declared.waiting.Part.{Part}
-use Rattle.merge_buffer.proofs.Walks.{Draining, draining_begins, draining_ends, draining_goes, there_is}
+use Rattle.merge_buffer.proofs.Walks.{draining_begins, draining_ends, draining_goes, there_is}
 use Rattle.merge_buffer.proofs.chains.drain.Goals as goal
 
 pub loop-at-init : goal.loop-at-init
@@ -24,9 +23,9 @@ loop-at-preserved c =
     let e = c.remove-entry.ensures in
     let p = c.push_reserved.ensures in
     let goes = draining_goes (get c.args.waiting.now) (get c.loop-at.waiting) c.args.head c.loop-at.at c.args.line
-        c.args.drained.now.items c.loop-at.drained.items (slab_len c.args.waiting.now) (slab_len c.loop-at.waiting)
-        v.draining c.in-Some.i c.remove-entry.result c.in-Some.is e.value (get c.remove-entry.new.self)
-        (slab_len c.remove-entry.new.self) e.len e.updates.others in
+    c.args.drained.now.items c.loop-at.drained.items (slab_len c.args.waiting.now) (slab_len c.loop-at.waiting)
+    v.draining c.in-Some.i c.remove-entry.result c.in-Some.is e.value (get c.remove-entry.new.self)
+    (slab_len c.remove-entry.new.self) e.len e.updates.others in
     record {
       draining = rw p.items goes;
       room = omega (arith, v.room, e.len, p.len);

@@ -1,4 +1,4 @@
-use Rattle.std.proofs.Common.{ℕ, ◌≡◌, ◌+◌, ◌≤◌, vec_len, vec_capacity}
+use Rattle.std.proofs.Common.{◌≡◌, ◌+◌, ◌≤◌, vec_len, vec_capacity}
 use Rattle.slab.specs.Slab.{get, slab_len}
 use Rattle.merge_buffer.proofs.Walks.{Draining}
 use Rattle.merge_buffer.proofs.chains.drain.Given as goal

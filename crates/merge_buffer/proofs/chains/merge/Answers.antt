@@ -1,4 +1,3 @@
-use Rattle.std.proofs.Common.{ℕ, ◌≡◌, ◌*◌, ◌+◌, ap, ◌∙◌, None}
 use Rattle.slab.specs.Slab.{get}
 use Rattle.merge_buffer.proofs.Walks.{merging_begins, merging_ends, merging_goes, here_step, rank_falls, there_is}
 use Rattle.merge_buffer.proofs.chains.merge.Goals as goal

@@ -1,4 +1,3 @@
-use Rattle.std.proofs.Common.{ℕ}
 use Rattle.slab.specs.Slab.{get}
 use Rattle.merge_buffer.proofs.Walks.{Merging, rank}
 use Rattle.merge_buffer.proofs.chains.merge.Given as goal

@@ -1,12 +1,9 @@
 use Rattle.std.proofs.Common.{sym, ◌∙◌, arith}
-use Rattle.key_tree.proofs.Numbers.{length-entries_of, distinct}
+use Rattle.key_tree.proofs.Numbers.{length-entries_of}
 use Rattle.key_tree.proofs.tree.KeyTree.len.Goals as goal
 
 pub returns-clause-count : goal.returns-clause-count
 returns-clause-count c = rw (sym c.self.view_is) (c.len.ensures ∙ sym (length-entries_of c.self.inside.nodes.slots))
-
-pub returns-clause-distinct : goal.returns-clause-distinct
-returns-clause-distinct c = rw (sym c.self.view_is) (distinct c.self.inside.nodes.slots c.self.invariant.0.apart)
 
 pub returns-clause-room : goal.returns-clause-room
 returns-clause-room c = rw (sym c.self.view_is)

@@ -1,4 +1,4 @@
-use Rattle.std.proofs.Common.{ℕ, ◌≡◌, ◌≢◌, ◌+◌, ◌%◌, arith}
+use Rattle.std.proofs.Common.{arith}
 use Rattle.merge_buffer.proofs.Merges.{merge_more}
 use Rattle.merge_buffer.proofs.merging.Merged.add.Goals as goal
 

@@ -1,4 +1,4 @@
-use Rattle.std.proofs.Common.{ℕ, ◌≡◌, ◌≢◌, rules, sym, ◌∙◌}
+use Rattle.std.proofs.Common.{rules, sym, ◌∙◌}
 use Rattle.merge_buffer.proofs.Merges.{added_there, added_others}
 use Rattle.merge_buffer.proofs.merging.Merged.add_byte.Goals as goal
 
