@@ -1,7 +1,8 @@
 pub mod Bits
 pub mod Merges
+pub mod Newest
 pub mod Room
 pub mod Sound
-pub mod Tests
+pub mod Equality
 pub mod Walks
 pub mod Writes

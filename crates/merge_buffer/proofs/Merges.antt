@@ -9,7 +9,8 @@ use Rattle.tandem_base.specs.Extents.{is_among}
 use Rattle.msg_frames.specs.declared.message.Piece.{Piece}
 use Rattle.msg_frames.specs.Frames.{mask_bit}
 use Rattle.merge_buffer.specs.declared.merging.Merged.{Merged}
-use Rattle.merge_buffer.specs.Parts.{or_else}
+use Rattle.merge_buffer.specs.Parts.{}
+use Rattle.tandem_base.specs.FirstFault.{◌or_else◌}
 use Rattle.merge_buffer.specs.Chains.{merged_byte}
 use Rattle.merge_buffer.proofs.Bits.{set_there, set_others}
 
@@ -17,13 +18,13 @@ module _ (m : Merged) (k byte : ℕ) (size : length m.bytes ≡ 64) (below : k <
   abbrev added : Merged
   added = record { mask = bit_or m.mask (1 * 2 ^ k % 2 ^ 64); bytes = set m.bytes k byte }
 
-  pub added_there : (mask_bit m.mask k == 1) ≡ false → merged_byte added k ≡ or_else (merged_byte m k) (Some byte)
+  pub added_there : (mask_bit m.mask k == 1) ≡ false → merged_byte added k ≡ ◌or_else◌ (merged_byte m k) (Some byte)
   added_there e =
       let s = set_there m.mask k below in
       let g = get_or-set_same m.bytes k byte 0 (omega (arith, size)) in
       ap (λ (x : ℕ). if x == 1 then Some (get_or (set m.bytes k byte) k 0) else None) s
       ∙ ap (λ (x : ℕ). Some x) g
-      ∙ sym (ap (λ (b : Bool). or_else (if b then Some (get_or m.bytes k 0) else None) (Some byte)) e)
+      ∙ sym (ap (λ (b : Bool). ◌or_else◌ (if b then Some (get_or m.bytes k 0) else None) (Some byte)) e)
 
   pub added_others : (j : ℕ) → j ≢ k → merged_byte added j ≡ merged_byte m j
   added_others j d =
@@ -37,19 +38,19 @@ abbrev pub front_byte : Piece → ℕ → ℕ → Option ℕ
 front_byte piece count x =
     if is_among piece.addr count x then Some (get_or piece.bytes (x - piece.addr) 0) else None
 
-pub or_else_none : (a : Option ℕ) → or_else a None ≡ a
+pub or_else_none : (a : Option ℕ) → ◌or_else◌ a None ≡ a
 or_else_none None = refl
 or_else_none (Some x) = refl
 
-pub or_else_assoc : (a b c : Option ℕ) → or_else (or_else a b) c ≡ or_else a (or_else b c)
+pub or_else_assoc : (a b c : Option ℕ) → ◌or_else◌ (◌or_else◌ a b) c ≡ ◌or_else◌ a (◌or_else◌ b c)
 or_else_assoc None b c = refl
 or_else_assoc (Some x) b c = refl
 
 module _ (piece : Piece) (old now new : Merged) (line k byte : ℕ)
     (within : piece.addr % 64 + length piece.bytes ≤ 64) (on : piece.addr / 64 ≡ line) (more : k < length piece.bytes)
-    (so_far : (j : ℕ) → j < 64 → merged_byte now j ≡ or_else (merged_byte old j) (front_byte piece k (line * 64 + j)))
+    (so_far : (j : ℕ) → j < 64 → merged_byte now j ≡ ◌or_else◌ (merged_byte old j) (front_byte piece k (line * 64 + j)))
     (is : byte ≡ get_or piece.bytes k 0)
-    (there : merged_byte new (piece.addr % 64 + k) ≡ or_else (merged_byte now (piece.addr % 64 + k)) (Some byte))
+    (there : merged_byte new (piece.addr % 64 + k) ≡ ◌or_else◌ (merged_byte now (piece.addr % 64 + k)) (Some byte))
     (others : (j : ℕ) → j ≢ piece.addr % 64 + k → merged_byte new j ≡ merged_byte now j) where
   place : line * 64 + (piece.addr % 64 + k) ≡ piece.addr + k
   place = omega (arith, on)
@@ -73,24 +74,24 @@ module _ (piece : Piece) (old now new : Merged) (line k byte : ℕ)
   elsewhere x d = grind (arith, nat_tests)
 
   pub merge_more : (j : ℕ) → j < 64
-      → merged_byte new j ≡ or_else (merged_byte old j) (front_byte piece (k + 1) (line * 64 + j))
+      → merged_byte new j ≡ ◌or_else◌ (merged_byte old j) (front_byte piece (k + 1) (line * 64 + j))
   merge_more j l = elim (cases_eq j (piece.addr % 64 + k)) [
     | inl s ↦ subst
-        (λ (i : ℕ). merged_byte new i ≡ or_else (merged_byte old i) (front_byte piece (k + 1) (line * 64 + i)))
+        (λ (i : ℕ). merged_byte new i ≡ ◌or_else◌ (merged_byte old i) (front_byte piece (k + 1) (line * 64 + i)))
         (sym s) here
     | inr d ↦ others j d ∙ so_far j l
-        ∙ ap (or_else (merged_byte old j)) (sym (elsewhere (line * 64 + j) (λ e. d (omega (arith, e, on)))))
+        ∙ ap (◌or_else◌ (merged_byte old j)) (sym (elsewhere (line * 64 + j) (λ e. d (omega (arith, e, on)))))
   ]
     where
       i : ℕ
       i = piece.addr % 64 + k
 
-      here : merged_byte new (piece.addr % 64 + k) ≡ or_else (merged_byte old (piece.addr % 64 + k))
+      here : merged_byte new (piece.addr % 64 + k) ≡ ◌or_else◌ (merged_byte old (piece.addr % 64 + k))
           (front_byte piece (k + 1) (line * 64 + (piece.addr % 64 + k)))
       here =
           let a = so_far (piece.addr % 64 + k) (omega arith) in
           let b : merged_byte now (piece.addr % 64 + k) ≡ merged_byte old (piece.addr % 64 + k) = a
-          ∙ ap (or_else (merged_byte old (piece.addr % 64 + k))) not_yet
+          ∙ ap (◌or_else◌ (merged_byte old (piece.addr % 64 + k))) not_yet
           ∙ or_else_none (merged_byte old (piece.addr % 64 + k)) in
-          there ∙ ap (λ (o : Option ℕ). or_else o (Some byte)) b
-          ∙ ap (or_else (merged_byte old (piece.addr % 64 + k))) (sym now_there)
+          there ∙ ap (λ (o : Option ℕ). ◌or_else◌ o (Some byte)) b
+          ∙ ap (◌or_else◌ (merged_byte old (piece.addr % 64 + k))) (sym now_there)

@@ -10,7 +10,7 @@ use Rattle.merge_buffer.specs.declared.waiting.Part.{Part}
 use Rattle.merge_buffer.specs.declared.waiting.Waiting.{Waiting}
 use Rattle.merge_buffer.specs.Parts.{line_of, AllBelow, Falls, AllOn}
 use Rattle.merge_buffer.specs.Chains.{IsChain, AreChained}
-use Rattle.merge_buffer.proofs.Tests.{same_line, other_line}
+use Rattle.merge_buffer.proofs.Equality.{same_line, other_line}
 use Rattle.merge_buffer.proofs.Walks.{chain_without}
 
 -- under the key an entry of that line is there

@@ -9,7 +9,7 @@ use Rattle.merge_buffer.specs.declared.waiting.Waiting.{Waiting}
 use Rattle.merge_buffer.specs.Parts.{line_of, AllBelow, IsWithinLine}
 use Rattle.merge_buffer.specs.Chains.{IsChain, IsChained, AreChained, chain_of, parts_on}
 use Rattle.merge_buffer.proofs.Room.{chain_fits}
-use Rattle.merge_buffer.proofs.Tests.{same_line, other_line}
+use Rattle.merge_buffer.proofs.Equality.{same_line, other_line}
 use Rattle.merge_buffer.proofs.Walks.{chain_kept, chain_apart}
 
 -- the list of a chain

@@ -5,7 +5,8 @@ use Rattle.std.proofs.lemmas.List.{append-nil, append_assoc}
 use Rattle.merge_buffer.specs.declared.waiting.Part.{Part}
 use Rattle.merge_buffer.specs.declared.waiting.Waiting.{Waiting}
 use Rattle.merge_buffer.specs.declared.merging.Merged.{Merged}
-use Rattle.merge_buffer.specs.Parts.{line_of, latest_byte, byte_of, or_else, AllBelow, Falls, AllOn, IsWithinLine}
+use Rattle.merge_buffer.specs.Parts.{line_of, latest_byte, byte_of, AllBelow, Falls, AllOn, IsWithinLine}
+use Rattle.tandem_base.specs.FirstFault.{◌or_else◌}
 use Rattle.merge_buffer.specs.Chains.{IsChain, IsChained, merged_byte}
 use Rattle.merge_buffer.proofs.Merges.{or_else_none, or_else_assoc}
 
@@ -77,13 +78,13 @@ rank at (Some i) = rank_of (at i)
 pub record Merging (at : ℕ → Option Waiting) (head here : Option ℕ) (line : ℕ) (merged : Merged) : Type 0 where
   pub rest : IsChained at here line
   pub same : (full : List Part) → IsChain at head full → (k : ℕ) → k < 64 →
-      or_else (merged_byte merged k) (latest_byte rest.parts (line * 64 + k)) ≡ latest_byte full (line * 64 + k)
+      ◌or_else◌ (merged_byte merged k) (latest_byte rest.parts (line * 64 + k)) ≡ latest_byte full (line * 64 + k)
 
 pub merging_begins : (at : ℕ → Option Waiting) (head : Option ℕ) (line : ℕ) (merged : Merged) → IsChained at head line
     → ((k : ℕ) → merged_byte merged k ≡ None) → Merging at head head line merged
 merging_begins at head line merged c none = record {
   rest = c;
-  same = λ full f k l. ap (λ (o : Option ℕ). or_else o (latest_byte c.parts (line * 64 + k))) (none k)
+  same = λ full f k l. ap (λ (o : Option ℕ). ◌or_else◌ o (latest_byte c.parts (line * 64 + k))) (none k)
       ∙ ap (λ (ps : List Part). latest_byte ps (line * 64 + k)) (chain_one at head c.parts full c.chain f);
 }
 
@@ -94,24 +95,24 @@ module _ (at : ℕ → Option Waiting) (head here : Option ℕ) (line : ℕ) (me
   merging_ends e full f k l =
       let empty : m.rest.parts ≡ [] = chain_one at here m.rest.parts [] m.rest.chain e in
       sym (or_else_none (merged_byte merged k))
-      ∙ ap (λ (ps : List Part). or_else (merged_byte merged k) (latest_byte ps (line * 64 + k))) (sym empty)
+      ∙ ap (λ (ps : List Part). ◌or_else◌ (merged_byte merged k) (latest_byte ps (line * 64 + k))) (sym empty)
       ∙ m.same full f k l
 
   module _ (i : ℕ) (w : Waiting) (e : here ≡ Some i) (there : at i ≡ Some w) where
     pub here_step : Steps at line w m.rest.parts
     here_step = step_of at line here i w m.rest.parts m.rest.chain m.rest.falls m.rest.on e there
 
-    pub merging_goes : (new : Merged) → ((k : ℕ) → k < 64 → merged_byte new k ≡ or_else (merged_byte merged k)
+    pub merging_goes : (new : Merged) → ((k : ℕ) → k < 64 → merged_byte new k ≡ ◌or_else◌ (merged_byte merged k)
         (byte_of w.part.piece (line * 64 + k))) → Merging at head w.before line new
     merging_goes new add =
         let s = here_step in
         record {
           rest = record { parts = s.tail; chain = s.chain; falls = s.falls; on = s.on };
           same = λ full f k l.
-              ap (λ (o : Option ℕ). or_else o (latest_byte s.tail (line * 64 + k))) (add k l)
+              ap (λ (o : Option ℕ). ◌or_else◌ o (latest_byte s.tail (line * 64 + k))) (add k l)
               ∙ or_else_assoc (merged_byte merged k) (byte_of w.part.piece (line * 64 + k))
               (latest_byte s.tail (line * 64 + k))
-              ∙ ap (λ (ps : List Part). or_else (merged_byte merged k) (latest_byte ps (line * 64 + k))) (sym s.is)
+              ∙ ap (λ (ps : List Part). ◌or_else◌ (merged_byte merged k) (latest_byte ps (line * 64 + k))) (sym s.is)
               ∙ m.same full f k l;
         }
 

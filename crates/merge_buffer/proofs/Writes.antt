@@ -14,7 +14,7 @@ use Rattle.merge_buffer.specs.declared.waiting.Waiting.{Waiting}
 use Rattle.merge_buffer.specs.Parts.{latest_byte, reported_byte, SameByte, Matches, DiffersAt}
 use Rattle.merge_buffer.specs.Chains.{chain_of, merged_byte, IsFirstDifference}
 use Rattle.merge_buffer.specs.Buffers.{list_at, lines_of}
-use Rattle.merge_buffer.proofs.Tests.{same_line, other_line}
+use Rattle.merge_buffer.proofs.Equality.{same_line, other_line}
 
 chain_none : (n : ℕ) (at : ℕ → Option Waiting) → chain_of n at None ≡ []
 chain_none zero at = refl

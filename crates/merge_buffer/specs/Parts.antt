@@ -1,7 +1,9 @@
 -- Inserts that wait, the newest first.
 use Rattle.std.specs.Prelude.{ℕ, ◌≡◌, ◌≢◌, ◌+◌, ◌-◌, ◌/◌, ◌%◌, ◌<◌, ◌≤◌, ◌==◌, true, List, [], ◌∷◌}
-use Rattle.std.specs.Prelude.{length, Option, None, Some, slice_index, if◌then◌else◌}
+use Rattle.std.specs.Prelude.{length, Option, None, Some, is_some, slice_index, if◌then◌else◌}
+use Rattle.std.specs.List.{Contains}
 use Rattle.tandem_base.specs.Extents.{is_among}
+use Rattle.tandem_base.specs.FirstFault.{◌or_else◌}
 use Rattle.msg_frames.specs.declared.message.Piece.{Piece}
 use Rattle.msg_frames.specs.declared.message.LineWrite.{LineWrite}
 use Rattle.msg_frames.specs.Frames.{mask_bit}
@@ -12,11 +14,6 @@ use Rattle.merge_buffer.specs.declared.waiting.Part.{Part}
 abbrev pub line_of : Part → ℕ
 line_of p = p.piece.addr / 64
 
--- the first, or else the second
-abbrev pub or_else : Option ℕ → Option ℕ → Option ℕ
-or_else None b = b
-or_else (Some x) b = Some x
-
 -- the byte of a piece at x
 abbrev pub byte_of : Piece → ℕ → Option ℕ
 byte_of piece x =
@@ -25,7 +22,7 @@ byte_of piece x =
 -- the byte at x of the newest of them that has one there
 abbrev pub latest_byte : List Part → ℕ → Option ℕ
 latest_byte [] x = None
-latest_byte (p ∷ ps) x = or_else (byte_of p.piece x) (latest_byte ps x)
+latest_byte (p ∷ ps) x = byte_of p.piece x or_else latest_byte ps x
 
 -- the byte of a Write at x of its line
 abbrev pub reported_byte : LineWrite → ℕ → Option ℕ
@@ -74,3 +71,9 @@ with_part p line ps = if line == line_of p then p ∷ ps else ps
 -- those that wait on a line, after a Write of a line
 abbrev pub without_line : ℕ → ℕ → List Part → List Part
 without_line written line ps = if line == written then [] else ps
+
+-- p is one of them and has a byte at x, and no newer one has one there
+pub record IsNewestAt (ps : List Part) (x : ℕ) (p : Part) : Type 0 where
+  pub among : Contains ps p
+  pub there : is_some (byte_of p.piece x) ≡ true
+  pub newest : (q : Part) → Contains ps q → is_some (byte_of q.piece x) ≡ true → q.number ≤ p.number

@@ -2,10 +2,15 @@
 #![tactic(auto)]
 
 mod chains;
+mod laws;
 mod lines;
 mod merging;
 mod waiting;
 
+pub use laws::merging_gives_the_newest_byte;
 pub use lines::{Drain, Lines, Took};
 pub use merging::Difference;
 pub use waiting::Part;
+
+#[cfg(test)]
+mod tests;

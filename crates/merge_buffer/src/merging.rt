@@ -3,7 +3,8 @@
 ghost use Rattle.std.specs.Prelude.{◌≡◌, ◌+◌, ◌*◌, ◌/◌, ◌<◌, ◌≤◌, ◌==◌, ℕ, length, None};
 ghost use Rattle.msg_frames.specs.Frames.{mask_bit};
 ghost use Rattle.std.specs.Prelude.{◌%◌, IfSome, IfNone};
-ghost use Rattle.merge_buffer.specs.Parts.{IsWithinLine, byte_of, or_else, reported_byte};
+ghost use Rattle.merge_buffer.specs.Parts.{IsWithinLine, byte_of, reported_byte};
+ghost use Rattle.tandem_base.specs.FirstFault.{◌or_else◌};
 ghost use Rattle.merge_buffer.specs.Chains.{merged_byte, IsFirstDifference};
 
 use msg_frames::{LineWrite, Piece};
@@ -25,7 +26,8 @@ pub fn is_set(mask: u64, k: u8) -> bool
 
 impl Merged {
     ghost use Rattle.std.specs.Prelude.{◌≡◌, ◌≢◌, ◌+◌, ◌*◌, ◌/◌, ◌<◌, ◌≤◌, ◌==◌, ℕ, length, None, Some, if◌then◌else◌};
-    ghost use Rattle.merge_buffer.specs.Parts.{IsWithinLine, byte_of, or_else};
+    ghost use Rattle.merge_buffer.specs.Parts.{IsWithinLine, byte_of};
+    ghost use Rattle.tandem_base.specs.FirstFault.{◌or_else◌};
     ghost use Rattle.merge_buffer.specs.Chains.{merged_byte};
 
     /// A line in which nothing waits.
@@ -53,7 +55,7 @@ impl Merged {
     /// Puts a byte where none is yet.
     pub fn add_byte(&mut self, k: u8, byte: u8)
         requires { k < 64 }
-        ensures there { merged_byte self.new k ≡ or_else (merged_byte self.old k) (Some byte) }
+        ensures there { merged_byte self.new k ≡ merged_byte self.old k or_else Some byte }
         ensures others { (j : ℕ) → j ≢ k → merged_byte self.new j ≡ merged_byte self.old j }
     {
         if !is_set(self.mask, k) {
@@ -67,7 +69,7 @@ impl Merged {
         requires within { IsWithinLine piece.now }
         requires line { piece.now.addr / 64 ≡ line }
         ensures { (k : ℕ) → k < 64 →
-            merged_byte self.new k ≡ or_else (merged_byte self.old k) (byte_of piece.now (line * 64 + k)) }
+            merged_byte self.new k ≡ merged_byte self.old k or_else byte_of piece.now (line * 64 + k) }
     {
         let first = (piece.addr % 64) as u8;
         for k in 0..piece.bytes.len() {
