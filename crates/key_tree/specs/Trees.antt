@@ -1,11 +1,12 @@
 -- Nodes, and how they make a tree.
 use Rattle.std.specs.Prelude.{ℕ, ◌≡◌, ◌≢◌, ◌⊎◌, ◌+◌, ◌^◌, ◌/◌, ◌%◌, ◌<◌, ◌≤◌, ◌==◌, Bool, Option, None, Some}
 use Rattle.std.specs.Prelude.{if◌then◌else◌}
+use Rattle.std.specs.Int.{bit_at}
 use Rattle.key_tree.specs.declared.node.Node.{Node}
 
 -- the key goes to the right of a node at this depth: its bit of that number is set
 abbrev pub side : ℕ → ℕ → Bool
-side depth key = key / 2 ^ depth % 2 == 1
+side depth key = bit_at key depth == 1
 
 -- the child on a side
 abbrev pub child : Bool → Node → Option ℕ

@@ -7,7 +7,7 @@ use Rattle.std.proofs.lemmas.Bool.Decides.{nat_tests}
 use Rattle.std.proofs.lemmas.List.{get_or-set_same, get_or-set_other}
 use Rattle.tandem_base.specs.Extents.{is_among}
 use Rattle.msg_frames.specs.declared.message.Piece.{Piece}
-use Rattle.msg_frames.specs.Frames.{mask_bit}
+use Rattle.std.specs.Int.{bit_at}
 use Rattle.merge_buffer.specs.declared.merging.Merged.{Merged}
 use Rattle.merge_buffer.specs.Parts.{}
 use Rattle.tandem_base.specs.FirstFault.{◌or_else◌}
@@ -18,7 +18,7 @@ module _ (m : Merged) (k byte : ℕ) (size : length m.bytes ≡ 64) (below : k <
   abbrev added : Merged
   added = record { mask = bit_or m.mask (1 * 2 ^ k % 2 ^ 64); bytes = set m.bytes k byte }
 
-  pub added_there : (mask_bit m.mask k == 1) ≡ false → merged_byte added k ≡ ◌or_else◌ (merged_byte m k) (Some byte)
+  pub added_there : (bit_at m.mask k == 1) ≡ false → merged_byte added k ≡ ◌or_else◌ (merged_byte m k) (Some byte)
   added_there e =
       let s = set_there m.mask k below in
       let g = get_or-set_same m.bytes k byte 0 (omega (arith, size)) in
@@ -31,7 +31,7 @@ module _ (m : Merged) (k byte : ℕ) (size : length m.bytes ≡ 64) (below : k <
       let s = set_others m.mask k j below d in
       let g = get_or-set_other m.bytes k j byte 0 d in
       ap (λ (x : ℕ). if x == 1 then Some (get_or (set m.bytes k byte) j 0) else None) s
-      ∙ ap (λ (x : ℕ). if mask_bit m.mask j == 1 then Some x else None) g
+      ∙ ap (λ (x : ℕ). if bit_at m.mask j == 1 then Some x else None) g
 
 -- the byte at x of the first `count` bytes of a piece
 abbrev pub front_byte : Piece → ℕ → ℕ → Option ℕ

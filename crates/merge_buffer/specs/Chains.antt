@@ -2,7 +2,7 @@
 use Rattle.std.specs.Prelude.{ℕ, zero, suc, ◌≡◌, ◌≢◌, ◌+◌, ◌<◌, ◌==◌, List, [], ◌∷◌, Option, None, Some, slice_index, if◌then◌else◌}
 use Rattle.slab.specs.Slab.{Slab, get}
 use Rattle.key_tree.specs.Entries.{Table, number_at}
-use Rattle.msg_frames.specs.Frames.{mask_bit}
+use Rattle.std.specs.Int.{bit_at}
 use Rattle.merge_buffer.specs.declared.waiting.Part.{Part}
 use Rattle.merge_buffer.specs.declared.waiting.Waiting.{Waiting}
 use Rattle.msg_frames.specs.declared.message.LineWrite.{LineWrite}
@@ -39,7 +39,7 @@ parts_on n waiting newest line = chain_of n (get waiting) (number_at newest line
 
 -- byte k of a merged line, None where nothing waits
 abbrev pub merged_byte : Merged → ℕ → Option ℕ
-merged_byte merged k = if mask_bit merged.mask k == 1 then Some (slice_index merged.bytes k) else None
+merged_byte merged k = if bit_at merged.mask k == 1 then Some (slice_index merged.bytes k) else None
 
 -- a Write differs first at this byte
 pub record IsFirstDifference (merged : Merged) (write : LineWrite) (d : Difference) : Type 0 where

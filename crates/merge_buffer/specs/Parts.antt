@@ -6,7 +6,7 @@ use Rattle.tandem_base.specs.Extents.{is_among}
 use Rattle.tandem_base.specs.FirstFault.{◌or_else◌}
 use Rattle.msg_frames.specs.declared.message.Piece.{Piece}
 use Rattle.msg_frames.specs.declared.message.LineWrite.{LineWrite}
-use Rattle.msg_frames.specs.Frames.{mask_bit}
+use Rattle.std.specs.Int.{bit_at}
 use Rattle.merge_buffer.specs.declared.merging.Difference.{Difference}
 use Rattle.merge_buffer.specs.declared.waiting.Part.{Part}
 
@@ -27,7 +27,7 @@ latest_byte (p ∷ ps) x = byte_of p.piece x or_else latest_byte ps x
 -- the byte of a Write at x of its line
 abbrev pub reported_byte : LineWrite → ℕ → Option ℕ
 reported_byte write x =
-    if mask_bit write.mask (x - write.line) == 1 then Some (slice_index write.bytes (x - write.line)) else None
+    if bit_at write.mask (x - write.line) == 1 then Some (slice_index write.bytes (x - write.line)) else None
 
 -- all of them have numbers below this one
 abbrev pub AllBelow : ℕ → List Part → Type 0

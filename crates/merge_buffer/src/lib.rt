@@ -12,5 +12,3 @@ pub use lines::{Drain, Lines, Took};
 pub use merging::Difference;
 pub use waiting::Part;
 
-#[cfg(test)]
-mod tests;

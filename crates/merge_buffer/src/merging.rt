@@ -1,7 +1,7 @@
 //! The bytes of a line, merged.
 
 ghost use Rattle.std.specs.Prelude.{◌≡◌, ◌+◌, ◌*◌, ◌/◌, ◌<◌, ◌≤◌, ◌==◌, ℕ, length, None};
-ghost use Rattle.msg_frames.specs.Frames.{mask_bit};
+ghost use Rattle.std.specs.Int.{bit_at};
 ghost use Rattle.std.specs.Prelude.{◌%◌, IfSome, IfNone};
 ghost use Rattle.merge_buffer.specs.Parts.{IsWithinLine, byte_of, reported_byte};
 ghost use Rattle.tandem_base.specs.FirstFault.{◌or_else◌};
@@ -19,7 +19,7 @@ pub struct Merged {
 /// Whether bit `k` of a mask is set.
 pub fn is_set(mask: u64, k: u8) -> bool
     requires { k < 64 }
-    ensures { result ≡ (mask_bit mask k == 1) }
+    ensures { result ≡ (bit_at mask k == 1) }
 {
     (mask >> k) % 2 == 1
 }
