@@ -11,4 +11,3 @@ pub use laws::merging_gives_the_newest_byte;
 pub use lines::{Drain, Lines, Took};
 pub use merging::Difference;
 pub use waiting::Part;
-

@@ -58,7 +58,8 @@ impl Merged {
         ensures there { merged_byte self.new k ≡ merged_byte self.old k or_else Some byte }
         ensures others { (j : ℕ) → j ≢ k → merged_byte self.new j ≡ merged_byte self.old j }
     {
-        if !is_set(self.mask, k) {
+        let taken = is_set(self.mask, k);
+        if !taken {
             self.mask |= 1 << k;
             self.bytes[k as usize] = byte;
         }
