@@ -1,5 +1,6 @@
 -- What is done to a tree leaves a tree.
-use Rattle.std.proofs.Common.{ℕ, zero, suc, ◌≡◌, ◌≢◌, ◌+◌, ◌^◌, ◌%◌, ◌<◌, ◌⊎◌, inl, inr, Bool, true, false, Option, None}
+use Rattle.std.proofs.Common.{ℕ, zero, suc, ◌≡◌, ◌≢◌, ◌+◌, ◌^◌, ◌%◌, ◌<◌}
+use Rattle.std.proofs.Common.{◌⊎◌, inl, inr, Bool, true, false, Option, None}
 use Rattle.std.proofs.Common.{Some, refl, sym, ap, ◌∙◌, subst, arith}
 use Rattle.std.proofs.lemmas.Bool.{cases_eq}
 use Rattle.key_tree.specs.declared.node.Node.{Node}
@@ -188,7 +189,8 @@ same_number i j o e f =
 
 -- a leaf is taken from its parent
 module _ (at new : ℕ → Option Node) (root : Option ℕ) (tree : IsTree at root) (j p : ℕ) (m : Node)
-    (there : at j ≡ Some m) (left : m.left ≡ None) (right : m.right ≡ None) (h : Hangs at j m p) (up : m.parent ≡ Some p)
+    (there : at j ≡ Some m) (left : m.left ≡ None) (right : m.right ≡ None) (h : Hangs at j m p)
+    (up : m.parent ≡ Some p)
     (cleared : new p ≡ Some (with_child (side h.from.depth m.key) None h.from))
     (gone : new j ≡ None) (others : (k : ℕ) → k ≢ p → k ≢ j → new k ≡ at k) where
   turn : Bool
@@ -327,7 +329,8 @@ module _ (at new : ℕ → Option Node) (root : Option ℕ) (tree : IsTree at ro
       by (suc d) s =
           let r = above at root tree d 1 i n e (omega (arith, s)) in
           let p = parent_of at root tree r.0 r.1 zero r.2 (omega (arith, r.3)) in
-          let same : p.0 ≡ j = one_at at root tree zero p.0 j p.1.from m p.1.there there (omega (arith, p.1.deeper, r.3))
+          let same : p.0 ≡ j = one_at at root tree zero p.0 j p.1.from m p.1.there there
+          (omega (arith, p.1.deeper, r.3))
           m_deep (grind arith) in
           let node : p.1.from ≡ m = same_node at j p.1.from m
           (subst (λ (x : ℕ). at x ≡ Some p.1.from) same p.1.there) there in

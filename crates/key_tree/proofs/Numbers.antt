@@ -27,7 +27,8 @@ number_found (Some m ∷ xs) zero n e one =
     let node : m ≡ n = cc in
     ap (λ (b : Bool). if b then Some m.number else number_of (entries_of xs) n.key)
     (ap (λ (x : Node). x.key == n.key) node ∙ same n.key) ∙ ap (λ (x : Node). Some x.number) node
-number_found (None ∷ xs) (suc i) n e one = number_found xs i n e (λ j m f s. (let w = one (suc j) m f s in omega (arith, w)))
+number_found (None ∷ xs) (suc i) n e one = number_found xs i n e
+    (λ j m f s. (let w = one (suc j) m f s in omega (arith, w)))
 number_found (Some m ∷ xs) (suc i) n e one =
     let d : m.key ≢ n.key = λ s. (let w = one zero m refl s in omega (arith, w)) in
     ap (λ (b : Bool). if b then Some m.number else number_of (entries_of xs) n.key) (differ m.key n.key d)

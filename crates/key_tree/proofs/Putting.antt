@@ -5,7 +5,8 @@ use Rattle.std.proofs.lemmas.Bool.{cases_eq}
 use Rattle.key_tree.specs.declared.node.Node.{Node}
 use Rattle.key_tree.specs.Trees.{side, child, with_child, with_entry, hung_from, planted, IsSound, WayEnds}
 use Rattle.key_tree.specs.Entries.{number_of, entries_of, put}
-use Rattle.key_tree.proofs.Growth.{tree_planted, apart_planted, none_yet, tree_rekeyed, apart_rekeyed, tree_hung, apart_hung}
+use Rattle.key_tree.proofs.Growth.{tree_planted, apart_planted, none_yet, tree_rekeyed}
+use Rattle.key_tree.proofs.Growth.{apart_rekeyed, tree_hung, apart_hung}
 use Rattle.key_tree.proofs.Numbers.{at_of, put_numbers, number_absent, number_is}
 
 same_node : (at : ℕ → Option Node) (i : ℕ) (n m : Node) → at i ≡ Some n → at i ≡ Some m → n ≡ m
@@ -112,13 +113,15 @@ module _ (xs ys : List (Option Node)) (root : Option ℕ) (i f key number : ℕ)
 
   pub hung_sound : IsSound (at_of ys) root
   hung_sound = record {
-    tree = tree_hung (at_of xs) (at_of ys) root sound.tree i f key number n there facts.bits facts.free vacant fit linked
+    tree = tree_hung (at_of xs) (at_of ys) root sound.tree i f key number n there facts.bits facts.free vacant fit
+        linked
         now others;
     apart = apart_hung (at_of xs) (at_of ys) root sound.tree i f key number n there facts.bits facts.free vacant fit
         linked now others sound.apart facts.absent;
   }
 
-  linked_entry : (s : Bool) (to : Option ℕ) → ((with_child s to n).key ≡ n.key) × ((with_child s to n).number ≡ n.number)
+  linked_entry : (s : Bool) (to : Option ℕ) → ((with_child s to n).key ≡ n.key)
+      × ((with_child s to n).number ≡ n.number)
   linked_entry true to = (refl, refl)
   linked_entry false to = (refl, refl)
 

@@ -135,7 +135,8 @@ module _ (at : ℕ → Option Node) (root : Option ℕ) (tree : IsTree at root) 
             let link : child (side depth r.1.key) p.1.from ≡ Some r.0 = subst
             (λ (x : ℕ). child (side x r.1.key) p.1.from ≡ Some r.0) dp p.1.link in (
               r.0,
-              sym (ap (λ (b : Bool). child b here.node) turn) ∙ sym (ap (λ (x : Node). child (side depth r.1.key) x) node)
+              sym (ap (λ (b : Bool). child b here.node) turn)
+                  ∙ sym (ap (λ (x : Node). child (side depth r.1.key) x) node)
                   ∙ link,
               l,
             )

@@ -47,7 +47,8 @@ pub record IsTree (at : ℕ → Option Node) (root : Option ℕ) : Type 0 where
   pub begins : (i : ℕ) → root ≡ Some i → IsRoot at i
   pub rooted : (i : ℕ) (n : Node) → at i ≡ Some n → n.parent ≡ None → root ≡ Some i
   pub hangs : (i : ℕ) (n : Node) (p : ℕ) → at i ≡ Some n → n.parent ≡ Some p → Hangs at i n p
-  pub leads : (i : ℕ) (n : Node) (right : Bool) (j : ℕ) → at i ≡ Some n → child right n ≡ Some j → IsChild at i n right j
+  pub leads : (i : ℕ) (n : Node) (right : Bool) (j : ℕ) → at i ≡ Some n → child right n ≡ Some j
+      → IsChild at i n right j
   pub fits : (i : ℕ) (n : Node) → at i ≡ Some n → n.key < 2 ^ 64
 
 -- no two nodes have one key

@@ -4,7 +4,8 @@ ghost use Rattle.std.specs.Prelude.{◌≡◌, ◌≢◌, ◌+◌, ◌<◌, ◌�
 ghost use Rattle.std.specs.Prelude.{◌≤◌, is_some, IfSome, IfNone, if◌then◌else◌};
 ghost use Rattle.slab.specs.Slab.{get, Updates, HasRoomFor, slab_len};
 ghost use Rattle.key_tree.specs.declared.node.Node.{Node};
-ghost use Rattle.key_tree.specs.Trees.{side, child, with_child, IsTree, AreApart, AreTree, WayEnds, IsLeafBelow, first_of};
+ghost use Rattle.key_tree.specs.Trees.{side, child, with_child, IsTree, AreApart};
+ghost use Rattle.key_tree.specs.Trees.{AreTree, WayEnds, IsLeafBelow, first_of};
 ghost use Rattle.key_tree.specs.Trees.{with_entry, hung_from, planted, IsSound, AllBut};
 ghost use Rattle.key_tree.specs.Entries.{number_of, entries_of, put as after_put, taken as after_take};
 
@@ -179,7 +180,8 @@ pub fn put(nodes: &mut Slab<Node>, root: &mut Option<usize>, key: u64, number: u
     ensures numbers { (q : ℕ) → number_of (entries_of nodes.new.slots) q
         ≡ after_put key number (entries_of nodes.old.slots) q }
     ensures len { slab_len nodes.new
-        ≡ (if is_some (number_of (entries_of nodes.old.slots) key) then slab_len nodes.old else slab_len nodes.old + 1) }
+        ≡ (if is_some (number_of (entries_of nodes.old.slots) key) then slab_len nodes.old
+        else slab_len nodes.old + 1) }
     ensures capacity { nodes.new.capacity ≡ nodes.old.capacity }
 {
     let top = match *root {

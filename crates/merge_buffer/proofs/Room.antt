@@ -70,7 +70,8 @@ newest_leads waiting newest s line i n =
     let c = s.chains line in
     by c.parts c.chain c.on
   where
-    by : (xs : List Part) → IsChain (get waiting) (number_at newest line) xs → AllOn line xs → Leads waiting.slots line i
+    by : (xs : List Part) → IsChain (get waiting) (number_at newest line) xs → AllOn line xs
+        → Leads waiting.slots line i
     by [] c o =
         let none : None ≡ Some i = sym c ∙ n in
         cc
@@ -89,7 +90,8 @@ pub chain_fits : (slots : List (Option Waiting)) (head : Option ℕ) (ps : List 
 chain_fits slots head [] c f = omega arith
 chain_fits slots head (p ∷ ps) c f =
     let below : AllBelow c.1.part.number ps = subst (λ (x : Part). AllBelow x.number ps) (sym c.4) f.0 in
-    let rest = chain_without (λ i. get_or slots i None) (λ i. get_or (set slots c.0 None) i None) c.0 c.1 c.1.before ps c.3
+    let rest = chain_without (λ i. get_or slots i None) (λ i. get_or (set slots c.0 None) i None) c.0 c.1 c.1.before
+    ps c.3
     (λ k d. get_or-set_other slots c.0 k None None d) below c.5 in
     let less = chain_fits (set slots c.0 None) c.1.before ps rest f.1 in
     omega (arith, less, one_less slots c.0 c.1 c.3)

@@ -34,7 +34,8 @@ chain_one at head (p ∷ ps) [] c d = absurd (none_of c.0 head d c.2)
 chain_one at head (p ∷ ps) (q ∷ qs) c d =
     let w : c.1 ≡ d.1 = same_entry at c.0 d.0 c.1 d.1 (same_number c.0 d.0 head c.2 d.2) c.3 d.3 in
     let first : p ≡ q = sym c.4 ∙ ap (λ (x : Waiting). x.part) w ∙ d.4 in
-    let tail : ps ≡ qs = chain_one at c.1.before ps qs c.5 (subst (λ (x : Waiting). IsChain at x.before qs) (sym w) d.5) in
+    let tail : ps ≡ qs = chain_one at c.1.before ps qs c.5
+    (subst (λ (x : Waiting). IsChain at x.before qs) (sym w) d.5) in
     cc
 
 -- one step along it
@@ -143,7 +144,15 @@ there_is at head i (p ∷ ps) c e =
 pub chain_kept : (at new : ℕ → Option Waiting) (head : Option ℕ) (ps : List Part)
     → ((i : ℕ) (w : Waiting) → at i ≡ Some w → new i ≡ Some w) → IsChain at head ps → IsChain new head ps
 chain_kept at new head [] keep c = c
-chain_kept at new head (p ∷ ps) keep c = (c.0, c.1, c.2, keep c.0 c.1 c.3, c.4, chain_kept at new c.1.before ps keep c.5)
+chain_kept at new head (p ∷ ps) keep c = (
+  c.0,
+  c.1,
+  c.2,
+  keep c.0 c.1 c.3,
+  c.4,
+  chain_kept at new c.1.before ps keep
+      c.5,
+)
 
 -- and those of one line that of another
 pub chain_apart : (at new : ℕ → Option Waiting) (head : Option ℕ) (ps : List Part) (line other : ℕ) → line ≢ other

@@ -1,5 +1,6 @@
 -- Lists of Inserts, as they are kept.
-use Rattle.std.specs.Prelude.{ℕ, zero, suc, ◌≡◌, ◌≢◌, ◌+◌, ◌<◌, ◌==◌, List, [], ◌∷◌, Option, None, Some, slice_index, if◌then◌else◌}
+use Rattle.std.specs.Prelude.{ℕ, zero, suc, ◌≡◌, ◌≢◌, ◌+◌, ◌<◌, ◌==◌, List}
+use Rattle.std.specs.Prelude.{[], ◌∷◌, Option, None, Some, slice_index, if◌then◌else◌}
 use Rattle.slab.specs.Slab.{Slab, get}
 use Rattle.key_tree.specs.Entries.{Table, number_at}
 use Rattle.std.specs.Int.{bit_at}

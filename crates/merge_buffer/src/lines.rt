@@ -52,13 +52,16 @@ impl Model for Lines {
     } };
 
     ghost invariant = { λ l. AreChained l.waiting l.newest × (slab_len l.waiting ≤ l.capacity)
-        × (l.capacity ≤ l.waiting.capacity) × (l.newest.capacity ≡ l.capacity) × (l.capacity ≤ vec_capacity l.drained) };
+        × (l.capacity ≤ l.waiting.capacity) × (l.newest.capacity ≡ l.capacity)
+        × (l.capacity ≤ vec_capacity l.drained) };
 }
 
 impl Lines {
-    ghost use Rattle.std.specs.Prelude.{◌≡◌, ◌+◌, ◌*◌, ◌/◌, ◌%◌, ◌<◌, ◌≤◌, ◌==◌, ℕ, List, [], ◌∷◌, length, reverse, slice_get, IfOk};
+    ghost use Rattle.std.specs.Prelude.{◌≡◌, ◌+◌, ◌*◌, ◌/◌, ◌%◌, ◌<◌, ◌≤◌, ◌==◌, ℕ};
+    ghost use Rattle.std.specs.Prelude.{List, [], ◌∷◌, length, reverse, slice_get, IfOk};
     ghost use Rattle.merge_buffer.specs.Parts.{AllBelow, IsWithinLine, Matches, DiffersAt, without_line};
-    ghost use Rattle.merge_buffer.specs.Buffers.{Buffer, waiting_on, took, after_insert, count_after, IfParts, IfMismatch};
+    ghost use Rattle.merge_buffer.specs.Buffers.{Buffer, waiting_on, took, after_insert};
+    ghost use Rattle.merge_buffer.specs.Buffers.{count_after, IfParts, IfMismatch};
 
     /// An empty buffer, with room for `capacity` Inserts. No other call takes memory.
     pub fn new(alloc: Global, capacity: u32) -> Result<Lines, AllocError>
@@ -86,7 +89,8 @@ impl Lines {
         requires newer { AllBelow number (waiting_on self.old (piece.now.addr / 64)) }
         ensures took { result ≡ took self.old }
         ensures waits { (line : ℕ) → waiting_on self.new line
-            ≡ after_insert result (record { tag = tag; piece = piece.now; number = number }) line (waiting_on self.old line) }
+            ≡ after_insert result (record { tag = tag; piece = piece.now; number = number }) line
+            (waiting_on self.old line) }
         ensures count { self.new.count ≡ count_after result self.old.count }
         ensures drained { self.new.drained ≡ self.old.drained }
         ensures capacity { self.new.capacity ≡ self.old.capacity }

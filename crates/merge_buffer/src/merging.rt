@@ -91,7 +91,8 @@ pub struct Difference {
 /// The lowest address at which a Write differs from the bytes that wait.
 pub fn first_difference(merged: &Merged, write: &LineWrite) -> Option<Difference>
     requires { write.now.line % 64 ≡ 0 }
-    ensures none { IfNone result ((k : ℕ) → k < 64 → merged_byte merged.now k ≡ reported_byte write.now (write.now.line + k)) }
+    ensures none { IfNone result ((k : ℕ) → k < 64 → merged_byte merged.now k
+        ≡ reported_byte write.now (write.now.line + k)) }
     ensures some { IfSome result (λ d. IsFirstDifference merged.now write.now d) }
 {
     if merged.mask == write.mask && merged.bytes == write.bytes {

@@ -29,14 +29,16 @@ pub returns-then-node_at-key-clause-sound : goal.returns-then-node_at-key-clause
 returns-then-node_at-key-clause-sound c =
     let n = c.node_at.result.now in
     set_sound c.args.nodes.now.slots c.set_entry.new.nodes.slots c.args.root.now c.reach-at.result c.args.key
-    c.args.number n c.requires.sound c.node_at.ensures c.if-node_at-key.true (c.set_entry.ensures.there n c.node_at.ensures)
+    c.args.number n c.requires.sound c.node_at.ensures c.if-node_at-key.true
+    (c.set_entry.ensures.there n c.node_at.ensures)
     c.set_entry.ensures.others (omega arith)
 
 pub returns-then-node_at-key-clause-numbers : goal.returns-then-node_at-key-clause-numbers
 returns-then-node_at-key-clause-numbers c =
     let n = c.node_at.result.now in
     set_numbers c.args.nodes.now.slots c.set_entry.new.nodes.slots c.args.root.now c.reach-at.result c.args.key
-    c.args.number n c.requires.sound c.node_at.ensures c.if-node_at-key.true (c.set_entry.ensures.there n c.node_at.ensures)
+    c.args.number n c.requires.sound c.node_at.ensures c.if-node_at-key.true
+    (c.set_entry.ensures.there n c.node_at.ensures)
     c.set_entry.ensures.others (omega arith)
 
 pub returns-then-node_at-key-clause-len : goal.returns-then-node_at-key-clause-len
@@ -45,7 +47,8 @@ returns-then-node_at-key-clause-len c =
     len_there (number_of (entries_of c.args.nodes.now.slots) c.args.key) n.number (slab_len c.set_entry.new.nodes)
     (slab_len c.args.nodes.now)
     (set_there c.args.nodes.now.slots c.set_entry.new.nodes.slots c.args.root.now c.reach-at.result c.args.key
-    c.args.number n c.requires.sound c.node_at.ensures c.if-node_at-key.true (c.set_entry.ensures.there n c.node_at.ensures)
+    c.args.number n c.requires.sound c.node_at.ensures c.if-node_at-key.true
+    (c.set_entry.ensures.there n c.node_at.ensures)
     c.set_entry.ensures.others (omega arith))
     c.set_entry.ensures.len
 
@@ -61,7 +64,8 @@ pub returns-else-node_at-key-clause-numbers : goal.returns-else-node_at-key-clau
 returns-else-node_at-key-clause-numbers c =
     let n = c.node_at.result.now in
     let h = c.hang.ensures in
-    hung_numbers c.args.nodes.now.slots c.hang.new.nodes.slots c.args.root.now c.reach-at.result c.hang.result c.args.key
+    hung_numbers c.args.nodes.now.slots c.hang.new.nodes.slots c.args.root.now c.reach-at.result c.hang.result
+    c.args.key
     c.args.number n c.requires.sound c.reach-at.ensures c.node_at.ensures c.if-node_at-key.false h.vacant
     (h.there n c.node_at.ensures) (h.linked n c.node_at.ensures) h.others (omega arith)
 
@@ -71,7 +75,8 @@ returns-else-node_at-key-clause-len c =
     let h = c.hang.ensures in
     len_absent (number_of (entries_of c.args.nodes.now.slots) c.args.key) (slab_len c.hang.new.nodes)
     (slab_len c.args.nodes.now)
-    (hung_absent c.args.nodes.now.slots c.hang.new.nodes.slots c.args.root.now c.reach-at.result c.hang.result c.args.key
+    (hung_absent c.args.nodes.now.slots c.hang.new.nodes.slots c.args.root.now c.reach-at.result c.hang.result
+    c.args.key
     c.args.number n c.requires.sound c.reach-at.ensures c.node_at.ensures c.if-node_at-key.false h.vacant
     (h.there n c.node_at.ensures) (h.linked n c.node_at.ensures) h.others (omega arith))
     h.len
