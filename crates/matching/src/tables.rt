@@ -45,13 +45,14 @@ fn config_in_flags(flags: u8) -> Config
 
 impl Matching {
     ghost use Rattle.std.specs.Prelude.{◌≡◌, ◌+◌, ◌<◌, ℕ, List, [], ◌∷◌, reverse, true, IfOk};
-    ghost use Rattle.std.specs.Prelude.{IfNone, OnSome, OnErr, OnOk};
+    ghost use Rattle.std.specs.Prelude.{Some, Ok, IfNone, OnSome, OnErr, OnOk};
     ghost use Rattle.std.specs.Option.{option_map_or};
     ghost use Rattle.elf_image.specs.Images.{Loaded, loaded_of};
     ghost use Rattle.msg_frames.specs.Frames.{Fits};
     ghost use Rattle.msg_frames.specs.declared.message.Message.{Message};
     ghost use Rattle.msg_frames.specs.declared.message.Body.TheVariants as Body;
     ghost use Rattle.tandem_base.specs.FirstFault.{passed};
+    ghost use Rattle.verdict_report.specs.declared.fault.Fault.{Fault};
     ghost use Rattle.matching.specs.Settings.{number_after};
     ghost use Rattle.matching.specs.Tags.{is_younger};
     ghost use Rattle.matching.specs.Matching.{match_fault, body_fault_of, stream_fault_of, end_fault_of};
@@ -281,6 +282,9 @@ impl Matching {
         ensures fault { (before : List Message) → Stands (loaded_of image.now) self.old before →
             number ≡ number_after before →
             IfOk result (λ fault. fault ≡ match_fault (loaded_of image.now) before message.now) }
+        ensures told { (before : List Message) (f : Fault) → Stands (loaded_of image.now) self.old before →
+            number ≡ number_after before → match_fault (loaded_of image.now) before message.now ≡ Some f →
+            result ≡ Ok (Some f) }
         ensures taken { (before : List Message) → Stands (loaded_of image.now) self.old before →
             number ≡ number_after before →
             IfOk result (λ fault. IfNone fault (Stands (loaded_of image.now) self.new (message.now ∷ before))) }
