@@ -1,6 +1,6 @@
 -- Which bytes stand in words, and how a text is cut at a byte that it lacks.
-use Rattle.std.proofs.Common.{◌≡◌, ℕ, suc, zero, ◌+◌, ◌/◌, ◌%◌, ◌^◌, ◌<◌, ◌≤◌, Bool, true, false, cond, eqb, List, [], ◌∷◌}
-use Rattle.std.proofs.Common.{◌++◌, length, drop, take, get_or, refl, sym, ap, ◌∙◌, arith, nat_lt, nat_le, nat_eq, if◌then◌else◌, ◌⊎◌, inl, inr}
+use Rattle.std.proofs.Common.{◌≡◌, ℕ, suc, zero, ◌+◌, ◌/◌, ◌%◌, ◌^◌, ◌<◌, ◌≤◌, Bool, true, false, List, [], ◌∷◌}
+use Rattle.std.proofs.Common.{◌++◌, length, drop, take, get_or, refl, sym, ap, ◌∙◌, arith, nat_le, nat_eq, if◌then◌else◌, ◌⊎◌, inl, inr}
 use Rattle.std.proofs.Common.{append-nil}
 use Rattle.std.proofs.Math.ListN.{drop_of_length-le}
 use Rattle.std.proofs.Math.Seq.{take-append_seam}
@@ -116,9 +116,14 @@ decimal_clean n small =
     digits_clean_by 10 (decimal n) (omega arith) (digits_is_IsNumeral 10 false (omega arith) (omega arith) n (omega arith)).0.1
 
 pub hexadecimal_clean : (n : ℕ) → n < 2 ^ 64 → Clean (hexadecimal n)
-hexadecimal_clean n small =
-    (omega arith, (omega arith, digits_clean_by 16 (digits 16 false n) (omega arith)
-    (digits_is_IsNumeral 16 false (omega arith) (omega arith) n (omega arith)).0.1))
+hexadecimal_clean n small = (
+  omega arith,
+  (
+    omega arith,
+    digits_clean_by 16 (digits 16 false n) (omega arith)
+        (digits_is_IsNumeral 16 false (omega arith) (omega arith) n (omega arith)).0.1,
+  ),
+)
 
 -- no digit is a stop that has no worth
 pub decimal_lacks : (stop n : ℕ) → n < 2 ^ 64 → digit_value stop ≡ 36 → Lacks stop (decimal n)
@@ -127,9 +132,14 @@ decimal_lacks stop n small none =
     (digits_is_IsNumeral 10 false (omega arith) (omega arith) n (omega arith)).0.1
 
 pub hexadecimal_lacks : (stop n : ℕ) → n < 2 ^ 64 → digit_value stop ≡ 36 → Lacks stop (hexadecimal n)
-hexadecimal_lacks stop n small none =
-    (other 48 (omega arith), (other 120 (omega arith), digits_lack_by 16 stop (digits 16 false n) (omega (arith, none))
-    (digits_is_IsNumeral 16 false (omega arith) (omega arith) n (omega arith)).0.1))
+hexadecimal_lacks stop n small none = (
+  other 48 (omega arith),
+  (
+    other 120 (omega arith),
+    digits_lack_by 16 stop (digits 16 false n) (omega (arith, none))
+        (digits_is_IsNumeral 16 false (omega arith) (omega arith) n (omega arith)).0.1,
+  ),
+)
   where
     other : (c : ℕ) → digit_value c < 36 → c ≡ stop → ⊥
     other c worth same = omega (arith, none, worth, ap digit_value same)
@@ -148,9 +158,14 @@ pub bytes_clean : (bytes : List ℕ) → IsBytes bytes → Clean (encode_lower b
 unfolding encode_with
 bytes_clean [] fits = tt
 bytes_clean (b ∷ bytes) fits =
-    let small : b < 256 = fits 0 in
-    (clean_index lower_digits (b / 16) table_clean (omega arith), (clean_index lower_digits (b % 16) table_clean
-    (omega arith), bytes_clean bytes (λ k. fits (suc k))))
+    let small : b < 256 = fits 0 in (
+      clean_index lower_digits (b / 16) table_clean (omega arith),
+      (
+        clean_index lower_digits (b % 16) table_clean
+            (omega arith),
+        bytes_clean bytes (λ k. fits (suc k)),
+      ),
+    )
 
 -- ---- parts of a text
 

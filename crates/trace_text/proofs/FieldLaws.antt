@@ -1,5 +1,5 @@
 -- A field is read from its spelling, and from nothing else.
-use Rattle.std.proofs.Common.{◌≡◌, ℕ, suc, ◌+◌, ◌-◌, ◌<◌, ◌≤◌, Bool, true, false, nat_eq, ◌==◌, if◌then◌else◌, ◌⊎◌, inl, inr}
+use Rattle.std.proofs.Common.{◌≡◌, ℕ, ◌+◌, ◌-◌, ◌<◌, ◌≤◌, Bool, true, false, nat_eq, if◌then◌else◌, inl, inr}
 use Rattle.std.proofs.Common.{List, [], ◌∷◌, ◌++◌, length, drop, drop-drop, length-append, length-drop, append-nil, append_assoc}
 use Rattle.std.proofs.Common.{Option, Some, None, Result, Ok, Err, refl, sym, ap, ◌∙◌, subst, arith}
 use Rattle.std.proofs.Math.Seq.{drop-append_seam}
@@ -45,9 +45,9 @@ one_word line at more low is =
     let next : drop (at + 1) line ≡ more = sym (drop-drop 1 at line) ∙ ap (drop 1) is in
     let word = word_from (at + 1) line in
     let rest : drop (length word) (drop (at + 1) line) ≡ drop (at + 1 + length word) line =
-        drop-drop (length word) (at + 1) line in
+    drop-drop (length word) (at + 1) line in
     let parts : word ++ drop (at + 1 + length word) line ≡ more =
-        ap (λ l. word ++ l) (sym rest) ∙ until_and_rest 32 (drop (at + 1) line) ∙ next in
+    ap (λ l. word ++ l) (sym rest) ∙ until_and_rest 32 (drop (at + 1) line) ∙ next in
     record {
       is = is ∙ ap (λ l. 32 ∷ l) (sym parts ∙ ap (λ l. l ++ drop (at + 1 + length word) line) (sym (append-nil word)));
       ends = subst (Breaks 32) rest (breaks_at 32 (drop (at + 1) line));
@@ -64,13 +64,16 @@ one_word line at more low is =
 
 word_told : (name line text : List ℕ) (at end : ℕ) (more : List ℕ) → at < length line → drop at line ≡ 32 ∷ more
     → (b : Bool) → starts_with nat_eq (word_from (at + 1) line) name ≡ b
-    → if◌then◌else◌ {A = Result (List ℕ × ℕ) ℕ} b (Ok (drop (length name) (word_from (at + 1) line), at + 1
-    + length (word_from (at + 1) line))) (Err (at + 1)) ≡ Ok (text, end)
+    → if◌then◌else◌ {A = Result (List ℕ × ℕ) ℕ} b (Ok (
+      drop (length name) (word_from (at + 1) line),
+      at + 1
+          + length (word_from (at + 1) line),
+    )) (Err (at + 1)) ≡ Ok (text, end)
     → Spelled line at end ((name ++ text) ∷ [])
 word_told name line text at end more low is false p h = cc
 word_told name line text at end more low is true p h =
     let same : word_from (at + 1) line ≡ name ++ text =
-        starts name (word_from (at + 1) line) p ∙ ap (λ l. name ++ l) (ap (λ r. (get_ok r).0) h) in
+    starts name (word_from (at + 1) line) p ∙ ap (λ l. name ++ l) (ap (λ r. (get_ok r).0) h) in
     let there : at + 1 + length (word_from (at + 1) line) ≡ end = ap (λ r. (get_ok r).1) h in
     subst (λ (w : List ℕ). Spelled line at end (w ∷ [])) same
     (subst (λ (n : ℕ). Spelled line at n (word_from (at + 1) line ∷ [])) there (one_word line at more low is))
@@ -164,28 +167,31 @@ field_reads name read text line at value fields follows plain reads =
     let size : length (drop at line) ≡ length line - at = length-drop at line in
     let long : 0 < length (drop at line) = omega (arith, ap length follows.is) in
     let next : drop (at + 1) line ≡ (name ++ text) ++ flat_map spaced fields =
-        sym (drop-drop 1 at line) ∙ ap (drop 1) follows.is in
+    sym (drop-drop 1 at line) ∙ ap (drop 1) follows.is in
     let word : word_from (at + 1) line ≡ name ++ text = ap (until 32) next ∙ first_word (name ++ text) fields plain in
     let open_end : nat_eq at (length line) ≡ false = ne_eqb at (length line) (λ same. omega (arith, size, long, same)) in
     let there : drop (at + 1 + length (name ++ text)) line ≡ flat_map spaced fields =
-        sym (drop-drop (length (name ++ text)) (at + 1) line) ∙ ap (drop (length (name ++ text))) next
-        ∙ drop-append_seam (name ++ text) (flat_map spaced fields) in
+    sym (drop-drop (length (name ++ text)) (at + 1) line) ∙ ap (drop (length (name ++ text))) next
+    ∙ drop-append_seam (name ++ text) (flat_map spaced fields) in
     record {
       end = at + 1 + length (name ++ text);
       is = rw (open_end, word, started name text, drop-append_seam name text, reads) refl;
-      follows = record { is = there; bound = omega (
-        arith,
-        size,
-        long,
-        ap length next,
-        length-append (name ++ text) (flat_map spaced fields),
-        length-drop (at + 1) line,
-      ) };
+      follows = record {
+        is = there;
+        bound = omega (
+          arith,
+          size,
+          long,
+          ap length next,
+          length-append (name ++ text) (flat_map spaced fields),
+          length-drop (at + 1) line,
+        );
+      };
     }
 
 -- where nothing follows the line ends
 pub ended_reads : (line : List ℕ) (at : ℕ) → Follows line at [] → ended line at ≡ Ok tt
 ended_reads line at follows =
     let same : at ≡ length line =
-        omega (arith, follows.bound, length-drop at line, ap length follows.is) in
+    omega (arith, follows.bound, length-drop at line, ap length follows.is) in
     ap (λ (b : Bool). if◌then◌else◌ {A = Result (Unit {0}) ℕ} b (Ok tt) (Err (at + 1))) (eq-eqb at (length line) same)

@@ -1,6 +1,6 @@
 -- What is read from a line stands there, field by field.
-use Rattle.std.proofs.Common.{◌≡◌, ℕ, ◌+◌, ◌%◌, ◌<◌, ◌≤◌, List, [], ◌∷◌, ◌++◌, length, drop, codes, Option, Some, None, IfSome}
-use Rattle.std.proofs.Common.{Result, Ok, Err, refl, sym, ap, ◌∙◌, subst, arith, append-nil, drop_of_length-le, get_or}
+use Rattle.std.proofs.Common.{◌≡◌, ℕ, ◌%◌, ◌<◌, ◌≤◌, List, [], ◌∷◌, ◌++◌, length, drop, codes, Option, Some, IfSome}
+use Rattle.std.proofs.Common.{Result, Ok, Err, refl, ap, ◌∙◌, subst, arith, append-nil, drop_of_length-le, get_or}
 use Rattle.std.specs.Prelude.{All}
 use Rattle.std.specs.Fmt.{decimal}
 use Rattle.std.specs.Int.{bit_at}
@@ -9,22 +9,19 @@ use Rattle.hex.specs.Hex.{encode_lower, IsBytes}
 use Rattle.msg_frames.specs.declared.csrs.CsrValue.{CsrValue}
 use Rattle.msg_frames.specs.declared.message.Head.{Head}
 use Rattle.msg_frames.specs.declared.message.OpenInfo.{OpenInfo}
-use Rattle.msg_frames.specs.declared.message.Target.{Target}
 use Rattle.msg_frames.specs.declared.message.Poke.{Poke}
 use Rattle.msg_frames.specs.declared.message.Piece.{Piece}
 use Rattle.msg_frames.specs.declared.message.LineWrite.{LineWrite}
 use Rattle.msg_frames.specs.declared.message.RdValue.{RdValue}
-use Rattle.msg_frames.specs.declared.message.Retire.{Retire}
-use Rattle.msg_frames.specs.Frames.{FitsOpen, FitsTarget, FitsWrite, FitsRetire, FitsPiece}
-use Rattle.msg_frames.specs.Frames.{TargetInRange, PieceInRange, CsrInRange, RetireInRange, AreBytes}
+use Rattle.msg_frames.specs.Frames.{FitsOpen, FitsTarget, FitsWrite}
 use Rattle.numerals.specs.Numerals.{hexadecimal, hexadecimal_in}
 use Rattle.trace_text.specs.Lines.{spaced, hart_field, time_field, tag_field, open_fields, poke_fields, piece_fields}
-use Rattle.trace_text.specs.Lines.{write_fields, retire_fields, target_text, trap_text, rd_text, csrs_text}
+use Rattle.trace_text.specs.Lines.{write_fields, target_text, trap_text, rd_text, csrs_text}
 use Rattle.trace_text.specs.Reading.{hart_at, time_at, tag_at, timed_at, placed_at, tagged_at, open_at, poke_at}
-use Rattle.trace_text.specs.Reading.{piece_at, write_at, fetch_at, outcome_at, retire_at}
-use Rattle.trace_text.specs.Values.{most16, most32, most64, between, multiple, target_in, poked_value_in, piece_bytes_in}
+use Rattle.trace_text.specs.Reading.{piece_at, write_at, fetch_at, outcome_at}
+use Rattle.trace_text.specs.Values.{most32, most64, between, multiple, target_in, poked_value_in, piece_bytes_in}
 use Rattle.trace_text.specs.Values.{line_bytes_in, trap_in, rd_in, csrs_in}
-use Rattle.trace_text.specs.Words.{◌>>=◌, field, ended}
+use Rattle.trace_text.specs.Words.{field, ended}
 use Rattle.trace_text.proofs.Clean.{Breaks}
 use Rattle.trace_text.proofs.FieldLaws.{bind_ok, Spelled, spelled_then, field_found, ended_found}
 use Rattle.trace_text.proofs.ValueLaws.{hexadecimal_read, between_read, multiple_read, TargetFits, target_read}
@@ -133,9 +130,10 @@ open_found line at info at_end e =
     let f = decimal_at (codes "flags=") 0 3 line harts.0.1 flags.0 (here h.0) flags.1 in
     let g = decimal_at (codes "granule=") 0 0 line flags.0.1 granule.0 (here f.0) granule.1 in
     let s = decimal_at (codes "skew=") 0 0 line granule.0.1 skew.0 (here g.0) skew.1 in
-    subst (λ (i : OpenInfo). (drop at line ≡ flat_map spaced (open_fields i)) × FitsOpen i) (ok_same _ info end.2)
-    (closes (spelled_then (spelled_then (spelled_then (spelled_then v.0 h.0) f.0) g.0) s.0) end.1,
-    (omega (arith, v.1.0, v.1.1), h.1.0, h.1.1, omega (arith, f.1.1), omega (arith, g.1.1), omega (arith, s.1.1)))
+    subst (λ (i : OpenInfo). (drop at line ≡ flat_map spaced (open_fields i)) × FitsOpen i) (ok_same _ info end.2) (
+      closes (spelled_then (spelled_then (spelled_then (spelled_then v.0 h.0) f.0) g.0) s.0) end.1,
+      (omega (arith, v.1.0, v.1.1), h.1.0, h.1.1, omega (arith, f.1.1), omega (arith, g.1.1), omega (arith, s.1.1)),
+    )
 
 pub poke_found : (line : List ℕ) (at : ℕ) (poke : Poke) → Here line at → poke_at line at ≡ Ok poke
     → (drop at line ≡ flat_map spaced (poke_fields poke)) × (TargetFits poke.target)
@@ -147,9 +145,9 @@ poke_found line at poke at_end e =
     let end = bind_ok (ended line value.0.1) _ poke value.2 in
     let t = spelled_by (codes "reg=") target_in (λ x. target_text x) (λ x. TargetFits x) target_read line at target.0 at_end target.1 in
     let v = spelled_by (codes "value=") (poked_value_in target.0.0) hexadecimal
-            (λ n. FitsTarget target.0.0 n × (n ≤ most64))
-            (λ text n r. let told = poked_value_read target.0.0 n text t.1 r in (told.0, (told.1, told.2))) line
-            target.0.1 value.0 (here t.0) value.1 in
+    (λ n. FitsTarget target.0.0 n × (n ≤ most64))
+    (λ text n r. let told = poked_value_read target.0.0 n text t.1 r in (told.0, (told.1, told.2))) line
+    target.0.1 value.0 (here t.0) value.1 in
     subst (λ (k : Poke). (drop at line ≡ flat_map spaced (poke_fields k)) × (TargetFits k.target)
     × FitsTarget k.target k.value × (k.value ≤ most64)) (ok_same _ poke end.2)
     (closes (spelled_then t.0 v.0) end.1, t.1, v.1.0, v.1.1)
@@ -164,9 +162,9 @@ piece_found line at piece at_end e =
     let end = bind_ok (ended line bytes.0.1) _ piece bytes.2 in
     let a = hexadecimal_at (codes "addr=") most64 line at addr.0 at_end addr.1 in
     let b = spelled_by (codes "bytes=") piece_bytes_in encode_lower
-            (λ l. (1 ≤ length l) × (length l ≤ 8) × IsBytes l)
-            (λ text l r. let told = piece_bytes_read text l r in (told.0, (told.1, told.2, told.3))) line addr.0.1
-            bytes.0 (here a.0) bytes.1 in
+    (λ l. (1 ≤ length l) × (length l ≤ 8) × IsBytes l)
+    (λ text l r. let told = piece_bytes_read text l r in (told.0, (told.1, told.2, told.3))) line addr.0.1
+    bytes.0 (here a.0) bytes.1 in
     subst (λ (k : Piece). (drop at line ≡ flat_map spaced (piece_fields k)) × (k.addr ≤ most64)
     × (1 ≤ length k.bytes) × (length k.bytes ≤ 8) × IsBytes k.bytes) (ok_same _ piece end.2)
     (closes (spelled_then a.0 b.0) end.1, a.1, b.1.0, b.1.1, b.1.2)
@@ -181,14 +179,14 @@ write_found line at write at_end e =
     let bytes = bind_ok (field (codes "bytes=") (line_bytes_in mask.0.0) line mask.0.1) _ write mask.2 in
     let end = bind_ok (ended line bytes.0.1) _ write bytes.2 in
     let a = spelled_by (codes "line=") (multiple 64) hexadecimal (λ n. (n % 64 ≡ 0) × (n ≤ most64))
-            (λ text n r. let told = multiple_read 64 n text r in (told.0, (told.1, told.2))) line at address.0 at_end
-            address.1 in
+    (λ text n r. let told = multiple_read 64 n text r in (told.0, (told.1, told.2))) line at address.0 at_end
+    address.1 in
     let m = hexadecimal_at (codes "mask=") most64 line address.0.1 mask.0 (here a.0) mask.1 in
     let b = spelled_by (codes "bytes=") (line_bytes_in mask.0.0) encode_lower
-            (λ l. (length l ≡ 64) × IsBytes l
-            × ((k : ℕ) → k < 64 → bit_at mask.0.0 k ≡ 0 → get_or l k 0 ≡ 0))
-            (λ text l r. let told = line_bytes_read mask.0.0 text l r in (told.0, (told.1, told.2, told.3))) line
-            mask.0.1 bytes.0 (here m.0) bytes.1 in
+    (λ l. (length l ≡ 64) × IsBytes l
+    × ((k : ℕ) → k < 64 → bit_at mask.0.0 k ≡ 0 → get_or l k 0 ≡ 0))
+    (λ text l r. let told = line_bytes_read mask.0.0 text l r in (told.0, (told.1, told.2, told.3))) line
+    mask.0.1 bytes.0 (here m.0) bytes.1 in
     subst (λ (k : LineWrite). (drop at line ≡ flat_map spaced (write_fields k)) × (k.line ≤ most64)
     × (k.mask ≤ most64) × (length k.bytes ≡ 64) × IsBytes k.bytes × FitsWrite k) (ok_same _ write end.2)
     (closes (spelled_then (spelled_then a.0 m.0) b.0) end.1, a.1.1, m.1, b.1.0, b.1.1, (a.1.0, b.1.2))
@@ -222,11 +220,11 @@ outcome_found line at p at_end e =
     let csrs = bind_ok (field (codes "csrs=") csrs_in line rd.0.1) _ p rd.2 in
     let end = bind_ok (ended line csrs.0.1) _ p csrs.2 in
     let t = spelled_by (codes "trap=") trap_in (λ x. trap_text x) (λ x. IfSome x (λ cause. cause ≤ 255)) trap_read line at trap.0
-            at_end trap.1 in
+    at_end trap.1 in
     let r = spelled_by (codes "rd=") rd_in (λ x. rd_text x) (λ x. IfSome x RdFits) rd_read line trap.0.1 rd.0 (here t.0) rd.1 in
     let c = spelled_by (codes "csrs=") csrs_in (λ x. csrs_text x) (λ l. (length l ≤ 4) × All CsrFits l)
-            (λ text l q. let told = csr_list_read text l q in (told.0, (told.1, told.2))) line rd.0.1 csrs.0 (here r.0)
-            csrs.1 in
+    (λ text l q. let told = csr_list_read text l q in (told.0, (told.1, told.2))) line rd.0.1 csrs.0 (here r.0)
+    csrs.1 in
     subst (λ (q : Option ℕ × Option RdValue × List CsrValue).
     (drop at line ≡ flat_map spaced ((codes "trap=" ++ trap_text q.0) ∷ (codes "rd=" ++ rd_text q.1)
     ∷ (codes "csrs=" ++ csrs_text q.2) ∷ []))

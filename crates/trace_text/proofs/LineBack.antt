@@ -1,11 +1,11 @@
 -- The words of a message are read as that message.
-use Rattle.std.proofs.Common.{◌≡◌, ℕ, zero, suc, ◌+◌, ◌%◌, ◌^◌, ◌<◌, ◌≤◌, Bool, true, false, List, [], ◌∷◌, ◌++◌, length, drop, codes}
-use Rattle.std.proofs.Common.{Option, Some, None, IfSome, Result, Ok, Err, refl, sym, ap, ◌∙◌, subst, arith, length-append}
+use Rattle.std.proofs.Common.{◌≡◌, ℕ, ◌^◌, ◌<◌, ◌≤◌, List, [], ◌∷◌, ◌++◌, length, codes}
+use Rattle.std.proofs.Common.{Option, Some, None, IfSome, Result, Ok, refl, sym, ap, ◌∙◌, arith, length-append}
 use Rattle.std.proofs.Math.Seq.{drop-append_seam}
-use Rattle.std.specs.Prelude.{All, IsTrue}
+use Rattle.std.specs.Prelude.{All}
 use Rattle.std.specs.Fmt.{decimal}
 use Rattle.std.specs.List.{flat_map}
-use Rattle.hex.specs.Hex.{encode_lower, IsBytes}
+use Rattle.hex.specs.Hex.{encode_lower}
 use Rattle.msg_frames.specs.declared.csrs.CsrValue.{CsrValue}
 use Rattle.msg_frames.specs.declared.message.Head.{Head}
 use Rattle.msg_frames.specs.declared.message.OpenInfo.{OpenInfo}
@@ -27,10 +27,10 @@ use Rattle.trace_text.specs.Lines.{spaced, hart_field, time_field, tag_field, op
 use Rattle.trace_text.specs.Lines.{write_fields, retire_fields, fields_of, kind_word, words_of}
 use Rattle.trace_text.specs.Lines.{target_text, trap_text, rd_text, csrs_text}
 use Rattle.trace_text.specs.Reading.{timed_at, placed_at, tagged_at, open_at, poke_at, piece_at, write_at, fetch_at}
-use Rattle.trace_text.specs.Reading.{outcome_at, retire_at, piece_message, kind_named, message_at, message_of, line_read}
-use Rattle.trace_text.specs.Values.{most16, most32, most64, between, multiple, target_in, poked_value_in, piece_bytes_in}
+use Rattle.trace_text.specs.Reading.{outcome_at, retire_at, kind_named, message_at, message_of, line_read}
+use Rattle.trace_text.specs.Values.{most32, most64, between, multiple, target_in, poked_value_in, piece_bytes_in}
 use Rattle.trace_text.specs.Values.{line_bytes_in, trap_in, rd_in, csrs_in}
-use Rattle.trace_text.specs.Words.{◌>>=◌, until, field, ended}
+use Rattle.trace_text.specs.Words.{◌>>=◌, until, field}
 use Rattle.trace_text.specs.declared.kinds.Kind.{Kind}
 use Rattle.trace_text.specs.declared.kinds.Kind.TheVariants as kind
 use Rattle.trace_text.proofs.Clean.{Clean, clean_append, clean_by, clean_lacks, decimal_clean, hexadecimal_clean, bytes_clean}
@@ -81,7 +81,7 @@ timed_reads head line at fields hart tag time follows =
     let none_hart : 0 ≡ head.hart = sym hart in
     let none_tag : 0 ≡ head.tag = sym tag in
     let t = decimal_reads (codes "time=") 0 most64 head.time line at fields (clean_by (codes "time=") refl) (omega arith)
-            (omega arith) (omega arith) follows in
+    (omega arith) (omega arith) follows in
     record {
       end = t.end;
       is = then_is _ (head.time, t.end) t.is (λ i. Ok ((record { hart = none_hart i; time = head.time; tag = none_tag i }), t.end));
@@ -95,9 +95,9 @@ unfolding placed_at
 placed_reads head line at fields hart tag time follows =
     let none_tag : 0 ≡ head.tag = sym tag in
     let h = decimal_reads (codes "hart=") 0 255 head.hart line at (time_field head ∷ fields)
-            (clean_by (codes "hart=") refl) (omega arith) (omega arith) (omega arith) follows in
+    (clean_by (codes "hart=") refl) (omega arith) (omega arith) (omega arith) follows in
     let t = decimal_reads (codes "time=") 0 most64 head.time line h.end fields (clean_by (codes "time=") refl)
-            (omega arith) (omega arith) (omega arith) h.follows in
+    (omega arith) (omega arith) (omega arith) h.follows in
     record {
       end = t.end;
       is = then_is _ (head.hart, h.end) h.is (then_is _ (head.time, t.end) t.is
@@ -112,11 +112,11 @@ tagged_reads : (head : Head) (line : List ℕ) (at : ℕ) (fields : List (List �
 unfolding tagged_at
 tagged_reads head line at fields hart time tag follows =
     let h = decimal_reads (codes "hart=") 0 255 head.hart line at (time_field head ∷ tag_field head ∷ fields)
-            (clean_by (codes "hart=") refl) (omega arith) (omega arith) (omega arith) follows in
+    (clean_by (codes "hart=") refl) (omega arith) (omega arith) (omega arith) follows in
     let t = decimal_reads (codes "time=") 0 most64 head.time line h.end (tag_field head ∷ fields)
-            (clean_by (codes "time=") refl) (omega arith) (omega arith) (omega arith) h.follows in
+    (clean_by (codes "time=") refl) (omega arith) (omega arith) (omega arith) h.follows in
     let g = decimal_reads (codes "tag=") 0 most64 head.tag line t.end fields (clean_by (codes "tag=") refl)
-            (omega arith) (omega arith) (omega arith) t.follows in
+    (omega arith) (omega arith) (omega arith) t.follows in
     record {
       end = g.end;
       is = then_is _ (head.hart, h.end) h.is (then_is _ (head.time, t.end) t.is (then_is _ (head.tag, g.end) g.is refl));
@@ -130,15 +130,15 @@ open_reads : (info : OpenInfo) (line : List ℕ) (at : ℕ) → FitsOpen info �
 unfolding open_at
 open_reads info line at fits follows =
     let v = decimal_reads (codes "version=") 1 1 info.version line at _ (clean_by (codes "version=") refl) (omega arith)
-            (omega (arith, fits.0)) (omega (arith, fits.0)) follows in
+    (omega (arith, fits.0)) (omega (arith, fits.0)) follows in
     let h = decimal_reads (codes "harts=") 1 16 info.harts line v.end _ (clean_by (codes "harts=") refl) (omega arith)
-            fits.1 fits.2 v.follows in
+    fits.1 fits.2 v.follows in
     let f = decimal_reads (codes "flags=") 0 3 info.flags line h.end _ (clean_by (codes "flags=") refl) (omega arith)
-            (omega arith) (omega (arith, fits.3)) h.follows in
+    (omega arith) (omega (arith, fits.3)) h.follows in
     let g = decimal_reads (codes "granule=") 0 0 info.granule line f.end _ (clean_by (codes "granule=") refl)
-            (omega arith) (omega arith) (omega (arith, fits.4)) f.follows in
+    (omega arith) (omega arith) (omega (arith, fits.4)) f.follows in
     let s = decimal_reads (codes "skew=") 0 0 info.skew line g.end [] (clean_by (codes "skew=") refl) (omega arith)
-            (omega arith) (omega (arith, fits.5)) g.follows in
+    (omega arith) (omega (arith, fits.5)) g.follows in
     then_is _ (info.version, v.end) v.is (then_is _ (info.harts, h.end) h.is (then_is _ (info.flags, f.end) f.is
     (then_is _ (info.granule, g.end) g.is (then_is _ (info.skew, s.end) s.is
     (then_is _ tt (ended_reads line s.end s.follows) refl)))))
@@ -154,10 +154,10 @@ unfolding poke_at
 poke_reads poke line at fits holds small follows =
     let fit = target_fits poke.target poke.value fits holds in
     let t = reads (codes "reg=") target_in (target_text poke.target) line at poke.target _ (clean_by (codes "reg=") refl)
-            (target_clean poke.target fit) (target_back poke.target fit) follows in
+    (target_clean poke.target fit) (target_back poke.target fit) follows in
     let v = reads (codes "value=") (poked_value_in poke.target) (hexadecimal poke.value) line t.end poke.value []
-            (clean_by (codes "value=") refl) (hexadecimal_clean poke.value small)
-            (poked_value_back poke.target poke.value fits small) t.follows in
+    (clean_by (codes "value=") refl) (hexadecimal_clean poke.value small)
+    (poked_value_back poke.target poke.value fits small) t.follows in
     then_is _ (poke.target, t.end) t.is (then_is _ (poke.value, v.end) v.is
     (then_is _ tt (ended_reads line v.end v.follows) refl))
 
@@ -166,10 +166,10 @@ piece_reads : (piece : Piece) (line : List ℕ) (at : ℕ) → FitsPiece piece �
 unfolding piece_at
 piece_reads piece line at fits holds follows =
     let a = hexadecimal_reads (codes "addr=") most64 piece.addr line at _ (clean_by (codes "addr=") refl) (omega arith)
-            (omega (arith, holds.0)) follows in
+    (omega (arith, holds.0)) follows in
     let b = reads (codes "bytes=") piece_bytes_in (encode_lower piece.bytes) line a.end piece.bytes []
-            (clean_by (codes "bytes=") refl) (bytes_clean piece.bytes holds.1)
-            (piece_bytes_back piece.bytes fits.0 fits.1 holds.1) a.follows in
+    (clean_by (codes "bytes=") refl) (bytes_clean piece.bytes holds.1)
+    (piece_bytes_back piece.bytes fits.0 fits.1 holds.1) a.follows in
     then_is _ (piece.addr, a.end) a.is (then_is _ (piece.bytes, b.end) b.is
     (then_is _ tt (ended_reads line b.end b.follows) refl))
 
@@ -179,13 +179,13 @@ write_reads : (write : LineWrite) (line : List ℕ) (at : ℕ) → FitsWrite wri
 unfolding write_at
 write_reads write line at fits address mask sized bytes follows =
     let a = reads (codes "line=") (multiple 64) (hexadecimal write.line) line at write.line _
-            (clean_by (codes "line=") refl) (hexadecimal_clean write.line address)
-            (multiple_back 64 write.line address fits.0) follows in
+    (clean_by (codes "line=") refl) (hexadecimal_clean write.line address)
+    (multiple_back 64 write.line address fits.0) follows in
     let m = hexadecimal_reads (codes "mask=") most64 write.mask line a.end _ (clean_by (codes "mask=") refl)
-            (omega arith) (omega (arith, mask)) a.follows in
+    (omega arith) (omega (arith, mask)) a.follows in
     let b = reads (codes "bytes=") (line_bytes_in write.mask) (encode_lower write.bytes) line m.end write.bytes []
-            (clean_by (codes "bytes=") refl) (bytes_clean write.bytes bytes)
-            (line_bytes_back write.mask write.bytes sized bytes fits.1) m.follows in
+    (clean_by (codes "bytes=") refl) (bytes_clean write.bytes bytes)
+    (line_bytes_back write.mask write.bytes sized bytes fits.1) m.follows in
     then_is _ (write.line, a.end) a.is (then_is _ (write.mask, m.end) m.is (then_is _ (write.bytes, b.end) b.is
     (then_is _ tt (ended_reads line b.end b.follows) refl)))
 
@@ -205,11 +205,11 @@ fetch_reads : (retire : Retire) (line : List ℕ) (at : ℕ) (fields : List (Lis
 unfolding fetch_at
 fetch_reads retire line at fields pc word next follows =
     let p = hexadecimal_reads (codes "pc=") most64 retire.pc line at _ (clean_by (codes "pc=") refl) (omega arith)
-            (omega (arith, pc)) follows in
+    (omega (arith, pc)) follows in
     let w = hexadecimal_reads (codes "word=") most32 retire.word line p.end _ (clean_by (codes "word=") refl)
-            (omega arith) (omega (arith, word)) p.follows in
+    (omega arith) (omega (arith, word)) p.follows in
     let n = hexadecimal_reads (codes "next=") most64 retire.next line w.end fields (clean_by (codes "next=") refl)
-            (omega arith) (omega (arith, next)) w.follows in
+    (omega arith) (omega (arith, next)) w.follows in
     record {
       end = n.end;
       is = then_is _ (retire.pc, p.end) p.is (then_is _ (retire.word, w.end) w.is (then_is _ (retire.next, n.end) n.is refl));
@@ -235,13 +235,13 @@ retire_reads retire line at fits holds follows =
     let f = fetch_reads retire line at _ holds.0 holds.1 holds.2 follows in
     let trapped = trap_fit retire.trap holds.3 in
     let t = reads (codes "trap=") trap_in (trap_text retire.trap) line f.end retire.trap _ (clean_by (codes "trap=") refl)
-            (trap_clean retire.trap trapped) (trap_back retire.trap trapped) f.follows in
+    (trap_clean retire.trap trapped) (trap_back retire.trap trapped) f.follows in
     let written = rd_fit retire.rd fits.0 holds.4 in
     let r = reads (codes "rd=") rd_in (rd_text retire.rd) line t.end retire.rd _ (clean_by (codes "rd=") refl)
-            (rd_clean retire.rd written) (rd_back retire.rd written) t.follows in
+    (rd_clean retire.rd written) (rd_back retire.rd written) t.follows in
     let listed = csrs_fit retire.csrs holds.5 in
     let c = reads (codes "csrs=") csrs_in (csrs_text retire.csrs) line r.end retire.csrs [] (clean_by (codes "csrs=") refl)
-            (csrs_clean retire.csrs listed) (csr_list_back retire.csrs fits.1 listed) r.follows in
+    (csrs_clean retire.csrs listed) (csr_list_back retire.csrs fits.1 listed) r.follows in
     then_is _ (retire.pc, retire.word, retire.next, f.end) f.is (then_is _ (retire.trap, retire.rd, retire.csrs)
     (then_is _ (retire.trap, t.end) t.is (then_is _ (retire.rd, r.end) r.is (then_is _ (retire.csrs, c.end) c.is
     (then_is _ tt (ended_reads line c.end c.follows) refl)))) refl)
@@ -326,7 +326,7 @@ line_reads message fits holds =
     let fields = fields_of message.head message.body in
     let line = word ++ flat_map spaced fields in
     let front : until 32 line ≡ word =
-        first_word word fields (clean_lacks 32 word (omega arith) (word_clean message.body)) in
+    first_word word fields (clean_lacks 32 word (omega arith) (word_clean message.body)) in
     let follows : Follows line (length word) fields = record {
       is = drop-append_seam word (flat_map spaced fields);
       bound = omega (arith, length-append word (flat_map spaced fields));
@@ -355,47 +355,92 @@ tag_clean : (head : Head) → head.tag < 2 ^ 64 → Clean (tag_field head)
 tag_clean head small = clean_field (codes "tag=") (decimal head.tag) (clean_by (codes "tag=") refl) (decimal_clean head.tag small)
 
 piece_clean : (piece : Piece) → PieceInRange piece → FieldsClean (piece_fields piece)
-piece_clean piece holds =
-    (clean_field (codes "addr=") (hexadecimal piece.addr) (clean_by (codes "addr=") refl)
-    (hexadecimal_clean piece.addr holds.0), (clean_field (codes "bytes=") (encode_lower piece.bytes)
-    (clean_by (codes "bytes=") refl) (bytes_clean piece.bytes holds.1), tt))
+piece_clean piece holds = (
+  clean_field (codes "addr=") (hexadecimal piece.addr) (clean_by (codes "addr=") refl)
+      (hexadecimal_clean piece.addr holds.0),
+  (
+    clean_field (codes "bytes=") (encode_lower piece.bytes)
+        (clean_by (codes "bytes=") refl) (bytes_clean piece.bytes holds.1),
+    tt,
+  ),
+)
 
 open_clean : (info : OpenInfo) → BodyInRange (body.Open info) → FieldsClean (open_fields info)
-open_clean info holds =
-    (clean_field (codes "version=") (decimal info.version) (clean_by (codes "version=") refl)
-    (decimal_clean info.version (omega (arith, holds.0))), (clean_field (codes "harts=") (decimal info.harts)
-    (clean_by (codes "harts=") refl) (decimal_clean info.harts (omega (arith, holds.1))),
-    (clean_field (codes "flags=") (decimal info.flags) (clean_by (codes "flags=") refl)
-    (decimal_clean info.flags (omega (arith, holds.2))), (clean_field (codes "granule=") (decimal info.granule)
-    (clean_by (codes "granule=") refl) (decimal_clean info.granule (omega (arith, holds.3))),
-    (clean_field (codes "skew=") (decimal info.skew) (clean_by (codes "skew=") refl)
-    (decimal_clean info.skew (omega (arith, holds.4))), tt)))))
+open_clean info holds = (
+  clean_field (codes "version=") (decimal info.version) (clean_by (codes "version=") refl)
+      (decimal_clean info.version (omega (arith, holds.0))),
+  (
+    clean_field (codes "harts=") (decimal info.harts)
+        (clean_by (codes "harts=") refl) (decimal_clean info.harts (omega (arith, holds.1))),
+    (
+      clean_field (codes "flags=") (decimal info.flags) (clean_by (codes "flags=") refl)
+          (decimal_clean info.flags (omega (arith, holds.2))),
+      (
+        clean_field (codes "granule=") (decimal info.granule)
+            (clean_by (codes "granule=") refl) (decimal_clean info.granule (omega (arith, holds.3))),
+        (
+          clean_field (codes "skew=") (decimal info.skew) (clean_by (codes "skew=") refl)
+              (decimal_clean info.skew (omega (arith, holds.4))),
+          tt,
+        ),
+      ),
+    ),
+  ),
+)
 
 poke_clean : (poke : Poke) → FitsTarget poke.target poke.value → TargetInRange poke.target → poke.value < 2 ^ 64
     → FieldsClean (poke_fields poke)
-poke_clean poke fits holds small =
-    (clean_field (codes "reg=") (target_text poke.target) (clean_by (codes "reg=") refl)
-    (target_clean poke.target (target_fits poke.target poke.value fits holds)), (clean_field (codes "value=")
-    (hexadecimal poke.value) (clean_by (codes "value=") refl) (hexadecimal_clean poke.value small), tt))
+poke_clean poke fits holds small = (
+  clean_field (codes "reg=") (target_text poke.target) (clean_by (codes "reg=") refl)
+      (target_clean poke.target (target_fits poke.target poke.value fits holds)),
+  (
+    clean_field (codes "value=")
+        (hexadecimal poke.value) (clean_by (codes "value=") refl) (hexadecimal_clean poke.value small),
+    tt,
+  ),
+)
 
 write_clean : (write : LineWrite) → BodyInRange (body.Write write) → FieldsClean (write_fields write)
-write_clean write holds =
-    (clean_field (codes "line=") (hexadecimal write.line) (clean_by (codes "line=") refl)
-    (hexadecimal_clean write.line holds.0), (clean_field (codes "mask=") (hexadecimal write.mask)
-    (clean_by (codes "mask=") refl) (hexadecimal_clean write.mask holds.1), (clean_field (codes "bytes=")
-    (encode_lower write.bytes) (clean_by (codes "bytes=") refl) (bytes_clean write.bytes holds.3), tt)))
+write_clean write holds = (
+  clean_field (codes "line=") (hexadecimal write.line) (clean_by (codes "line=") refl)
+      (hexadecimal_clean write.line holds.0),
+  (
+    clean_field (codes "mask=") (hexadecimal write.mask)
+        (clean_by (codes "mask=") refl) (hexadecimal_clean write.mask holds.1),
+    (
+      clean_field (codes "bytes=")
+          (encode_lower write.bytes) (clean_by (codes "bytes=") refl) (bytes_clean write.bytes holds.3),
+      tt,
+    ),
+  ),
+)
 
 retire_clean : (retire : Retire) → FitsRetire retire → RetireInRange retire → FieldsClean (retire_fields retire)
-retire_clean retire fits holds =
-    (clean_field (codes "pc=") (hexadecimal retire.pc) (clean_by (codes "pc=") refl)
-    (hexadecimal_clean retire.pc holds.0), (clean_field (codes "word=") (hexadecimal retire.word)
-    (clean_by (codes "word=") refl) (hexadecimal_clean retire.word (omega (arith, holds.1))),
-    (clean_field (codes "next=") (hexadecimal retire.next) (clean_by (codes "next=") refl)
-    (hexadecimal_clean retire.next holds.2), (clean_field (codes "trap=") (trap_text retire.trap)
-    (clean_by (codes "trap=") refl) (trap_clean retire.trap (trap_fit retire.trap holds.3)),
-    (clean_field (codes "rd=") (rd_text retire.rd) (clean_by (codes "rd=") refl)
-    (rd_clean retire.rd (rd_fit retire.rd fits.0 holds.4)), (clean_field (codes "csrs=") (csrs_text retire.csrs)
-    (clean_by (codes "csrs=") refl) (csrs_clean retire.csrs (csrs_fit retire.csrs holds.5)), tt))))))
+retire_clean retire fits holds = (
+  clean_field (codes "pc=") (hexadecimal retire.pc) (clean_by (codes "pc=") refl)
+      (hexadecimal_clean retire.pc holds.0),
+  (
+    clean_field (codes "word=") (hexadecimal retire.word)
+        (clean_by (codes "word=") refl) (hexadecimal_clean retire.word (omega (arith, holds.1))),
+    (
+      clean_field (codes "next=") (hexadecimal retire.next) (clean_by (codes "next=") refl)
+          (hexadecimal_clean retire.next holds.2),
+      (
+        clean_field (codes "trap=") (trap_text retire.trap)
+            (clean_by (codes "trap=") refl) (trap_clean retire.trap (trap_fit retire.trap holds.3)),
+        (
+          clean_field (codes "rd=") (rd_text retire.rd) (clean_by (codes "rd=") refl)
+              (rd_clean retire.rd (rd_fit retire.rd fits.0 holds.4)),
+          (
+            clean_field (codes "csrs=") (csrs_text retire.csrs)
+                (clean_by (codes "csrs=") refl) (csrs_clean retire.csrs (csrs_fit retire.csrs holds.5)),
+            tt,
+          ),
+        ),
+      ),
+    ),
+  ),
+)
 
 pub fields_clean : (head : Head) (b : Body) → Fits (with_body head b) → InRange (with_body head b)
     → FieldsClean (fields_of head b)

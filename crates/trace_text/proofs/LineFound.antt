@@ -1,35 +1,28 @@
 -- A line that is read is the words of its message.
-use Rattle.std.proofs.Common.{◌≡◌, ℕ, zero, suc, ◌+◌, ◌^◌, ◌<◌, ◌≤◌, Bool, true, false, List, [], ◌∷◌, ◌++◌, length, drop, codes}
-use Rattle.std.proofs.Common.{Option, Some, None, IfSome, Result, Ok, Err, refl, sym, ap, ◌∙◌, subst, arith, length-append}
+use Rattle.std.proofs.Common.{◌≡◌, ℕ, ◌^◌, ◌<◌, ◌≤◌, Bool, true, false, List, [], ◌∷◌, ◌++◌, length, drop, codes}
+use Rattle.std.proofs.Common.{Option, Some, None, IfSome, Result, Ok, refl, sym, ap, ◌∙◌, subst, arith, length-append}
 use Rattle.std.specs.Prelude.{All, if◌then◌else◌}
 use Rattle.std.proofs.lemmas.Grind.{flat_map-append}
 use Rattle.std.proofs.lemmas.Option.{cond_some}
 use Rattle.std.specs.Cmp.Lexicographic.{same_text}
 use Rattle.std.specs.List.{flat_map}
 use Rattle.msg_frames.specs.declared.csrs.CsrValue.{CsrValue}
-use Rattle.msg_frames.specs.declared.message.Head.{Head}
-use Rattle.msg_frames.specs.declared.message.OpenInfo.{OpenInfo}
-use Rattle.msg_frames.specs.declared.message.Poke.{Poke}
-use Rattle.msg_frames.specs.declared.message.Piece.{Piece}
-use Rattle.msg_frames.specs.declared.message.LineWrite.{LineWrite}
 use Rattle.msg_frames.specs.declared.message.RdValue.{RdValue}
 use Rattle.msg_frames.specs.declared.message.Retire.{Retire}
 use Rattle.msg_frames.specs.declared.message.Target.{Target}
 use Rattle.msg_frames.specs.declared.message.Target.TheVariants.{Pc, X, Csr}
-use Rattle.msg_frames.specs.declared.message.Body.{Body}
-use Rattle.msg_frames.specs.declared.message.Body.TheVariants as body
 use Rattle.msg_frames.specs.declared.message.Message.{Message}
 use Rattle.msg_frames.specs.Frames.{FitsRetire, TargetInRange, CsrInRange, RetireInRange, Fits, InRange}
 use Rattle.trace_text.specs.Lines.{spaced, fields_of, kind_word, open_fields, poke_fields, piece_fields, write_fields, retire_fields, words_of}
 use Rattle.trace_text.specs.Lines.{trap_text, rd_text, csrs_text}
 use Rattle.trace_text.specs.Reading.{timed_at, placed_at, tagged_at, open_at, poke_at, piece_at, write_at, fetch_at}
-use Rattle.trace_text.specs.Reading.{outcome_at, retire_at, piece_message, kind_named, message_at, message_of, line_read}
-use Rattle.trace_text.specs.Values.{most16, most64, is_text}
+use Rattle.trace_text.specs.Reading.{outcome_at, retire_at, kind_named, message_at, message_of, line_read}
+use Rattle.trace_text.specs.Values.{is_text}
 use Rattle.trace_text.specs.Words.{◌>>=◌, until, ended}
 use Rattle.trace_text.specs.declared.kinds.Kind.{Kind}
 use Rattle.trace_text.specs.declared.kinds.Kind.TheVariants as kind
 use Rattle.trace_text.proofs.Clean.{breaks_at, until_and_rest}
-use Rattle.trace_text.proofs.FieldLaws.{bind_ok, Spelled, spelled_then}
+use Rattle.trace_text.proofs.FieldLaws.{bind_ok, Spelled}
 use Rattle.trace_text.proofs.Found.{Here, here, ok_same, closes, timed_found, placed_found, tagged_found, open_found}
 use Rattle.trace_text.proofs.Found.{poke_found, piece_found, write_found, fetch_found, outcome_found}
 use Rattle.trace_text.proofs.ValueLaws.{TargetFits, RdFits, CsrFits}
@@ -81,9 +74,18 @@ retire_found line at retire at_end e =
     let f = fetch_found line at fetch at_end p in
     let o = outcome_found line fetch.3 outcome (here f.0) q in
     subst (λ (r : Retire). (drop at line ≡ flat_map spaced (retire_fields r)) × FitsRetire r × RetireInRange r)
-    (ok_same _ retire last)
-    (joined (outcome_fields outcome) f.0 o.0, (rd_fits outcome.1 o.2, o.3), (omega (arith, f.1.0), omega (arith, f.1.1), omega (arith, f.1.2),
-    trap_holds outcome.0 o.1, rd_holds outcome.1 o.2, csrs_hold outcome.2 o.4))))
+    (ok_same _ retire last) (
+      joined (outcome_fields outcome) f.0 o.0,
+      (rd_fits outcome.1 o.2, o.3),
+      (
+        omega (arith, f.1.0),
+        omega (arith, f.1.1),
+        omega (arith, f.1.2),
+        trap_holds outcome.0 o.1,
+        rd_holds outcome.1 o.2,
+        csrs_hold outcome.2 o.4,
+      ),
+    )))
 
 -- ---- the kinds
 
@@ -114,58 +116,119 @@ message_found kind.Open line at message at_end e =
     let h = timed_found line at head at_end p in
     let o = open_found line head.1 info (here h.0) q in
     let fits = o.1 in
-    subst (λ (m : Message). Stands line at (codes "open") m) (ok_same _ message last)
-    (refl, joined (open_fields info) h.0 o.0, (h.1.0, h.1.1, fits), (omega (arith, h.1.0), omega (arith, h.1.2),
-    omega (arith, h.1.1), (omega (arith, fits.0), omega (arith, fits.2), omega (arith, fits.3), omega (arith, fits.4),
-    omega (arith, fits.5))))))
+    subst (λ (m : Message). Stands line at (codes "open") m) (ok_same _ message last) (
+      refl,
+      joined (open_fields info) h.0 o.0,
+      (h.1.0, h.1.1, fits),
+      (
+        omega (arith, h.1.0),
+        omega (arith, h.1.2),
+        omega (arith, h.1.1),
+        (
+          omega (arith, fits.0),
+          omega (arith, fits.2),
+          omega (arith, fits.3),
+          omega (arith, fits.4),
+          omega (arith, fits.5),
+        ),
+      ),
+    )))
 message_found kind.Poke line at message at_end e =
     by_step (placed_at line at) _ message e (λ head p rest. by_step (poke_at line head.1) _ message rest
     (λ poke q last.
     let h = placed_found line at head at_end p in
     let o = poke_found line head.1 poke (here h.0) q in
-    subst (λ (m : Message). Stands line at (codes "poke") m) (ok_same _ message last)
-    (refl, joined (poke_fields poke) h.0 o.0, (h.1.1, o.2), (omega (arith, h.1.0), omega (arith, h.1.2),
-    omega (arith, h.1.1), (target_holds poke.target o.1, omega (arith, o.3))))))
+    subst (λ (m : Message). Stands line at (codes "poke") m) (ok_same _ message last) (
+      refl,
+      joined (poke_fields poke) h.0 o.0,
+      (h.1.1, o.2),
+      (
+        omega (arith, h.1.0),
+        omega (arith, h.1.2),
+        omega (arith, h.1.1),
+        (target_holds poke.target o.1, omega (arith, o.3)),
+      ),
+    )))
 message_found kind.Read line at message at_end e =
     by_step (tagged_at line at) _ message e (λ head p rest. by_step (piece_at line head.1) _ message rest
     (λ piece q last.
     let h = tagged_found line at head at_end p in
     let o = piece_found line head.1 piece (here h.0) q in
-    subst (λ (m : Message). Stands line at (codes "read") m) (ok_same _ message last)
-    (refl, joined (piece_fields piece) h.0 o.0, (o.2, o.3), (omega (arith, h.1.0), omega (arith, h.1.2),
-    omega (arith, h.1.1), (omega (arith, o.1), o.4)))))
+    subst (λ (m : Message). Stands line at (codes "read") m) (ok_same _ message last) (
+      refl,
+      joined (piece_fields piece) h.0 o.0,
+      (o.2, o.3),
+      (
+        omega (arith, h.1.0),
+        omega (arith, h.1.2),
+        omega (arith, h.1.1),
+        (omega (arith, o.1), o.4),
+      ),
+    )))
 message_found kind.Insert line at message at_end e =
     by_step (tagged_at line at) _ message e (λ head p rest. by_step (piece_at line head.1) _ message rest
     (λ piece q last.
     let h = tagged_found line at head at_end p in
     let o = piece_found line head.1 piece (here h.0) q in
-    subst (λ (m : Message). Stands line at (codes "insert") m) (ok_same _ message last)
-    (refl, joined (piece_fields piece) h.0 o.0, (o.2, o.3), (omega (arith, h.1.0), omega (arith, h.1.2),
-    omega (arith, h.1.1), (omega (arith, o.1), o.4)))))
+    subst (λ (m : Message). Stands line at (codes "insert") m) (ok_same _ message last) (
+      refl,
+      joined (piece_fields piece) h.0 o.0,
+      (o.2, o.3),
+      (
+        omega (arith, h.1.0),
+        omega (arith, h.1.2),
+        omega (arith, h.1.1),
+        (omega (arith, o.1), o.4),
+      ),
+    )))
 message_found kind.Write line at message at_end e =
     by_step (placed_at line at) _ message e (λ head p rest. by_step (write_at line head.1) _ message rest
     (λ write q last.
     let h = placed_found line at head at_end p in
     let o = write_found line head.1 write (here h.0) q in
-    subst (λ (m : Message). Stands line at (codes "write") m) (ok_same _ message last)
-    (refl, joined (write_fields write) h.0 o.0, (h.1.1, o.5), (omega (arith, h.1.0), omega (arith, h.1.2),
-    omega (arith, h.1.1), (omega (arith, o.1), omega (arith, o.2), o.3, o.4)))))
+    subst (λ (m : Message). Stands line at (codes "write") m) (ok_same _ message last) (
+      refl,
+      joined (write_fields write) h.0 o.0,
+      (h.1.1, o.5),
+      (
+        omega (arith, h.1.0),
+        omega (arith, h.1.2),
+        omega (arith, h.1.1),
+        (omega (arith, o.1), omega (arith, o.2), o.3, o.4),
+      ),
+    )))
 message_found kind.Bypass line at message at_end e =
     by_step (tagged_at line at) _ message e (λ head p rest. by_step (piece_at line head.1) _ message rest
     (λ piece q last.
     let h = tagged_found line at head at_end p in
     let o = piece_found line head.1 piece (here h.0) q in
-    subst (λ (m : Message). Stands line at (codes "bypass") m) (ok_same _ message last)
-    (refl, joined (piece_fields piece) h.0 o.0, (o.2, o.3), (omega (arith, h.1.0), omega (arith, h.1.2),
-    omega (arith, h.1.1), (omega (arith, o.1), o.4)))))
+    subst (λ (m : Message). Stands line at (codes "bypass") m) (ok_same _ message last) (
+      refl,
+      joined (piece_fields piece) h.0 o.0,
+      (o.2, o.3),
+      (
+        omega (arith, h.1.0),
+        omega (arith, h.1.2),
+        omega (arith, h.1.1),
+        (omega (arith, o.1), o.4),
+      ),
+    )))
 message_found kind.Retire line at message at_end e =
     by_step (tagged_at line at) _ message e (λ head p rest. by_step (retire_at line head.1) _ message rest
     (λ retire q last.
     let h = tagged_found line at head at_end p in
     let o = retire_found line head.1 retire (here h.0) q in
-    subst (λ (m : Message). Stands line at (codes "retire") m) (ok_same _ message last)
-    (refl, joined (retire_fields retire) h.0 o.0, o.1, (omega (arith, h.1.0), omega (arith, h.1.2),
-    omega (arith, h.1.1), o.2))))
+    subst (λ (m : Message). Stands line at (codes "retire") m) (ok_same _ message last) (
+      refl,
+      joined (retire_fields retire) h.0 o.0,
+      o.1,
+      (
+        omega (arith, h.1.0),
+        omega (arith, h.1.2),
+        omega (arith, h.1.1),
+        o.2,
+      ),
+    )))
 message_found kind.Squash line at message at_end e =
     by_step (tagged_at line at) _ message e (λ head p rest. by_step (ended line head.1) _ message rest
     (λ u q last.
@@ -210,7 +273,7 @@ line_found line message e = told (kind_named (until 32 line)) refl e
     told (Some k) p h =
         let parts = until_and_rest 32 line in
         let low : length (until 32 line) ≤ length line =
-            omega (arith, ap length parts, length-append (until 32 line) (drop (length (until 32 line)) line)) in
+        omega (arith, ap length parts, length-append (until 32 line) (drop (length (until 32 line)) line)) in
         let found = message_found k line (length (until 32 line)) message (low, breaks_at 32 line) h in
         let front : until 32 line ≡ kind_word message.body = kind_found (until 32 line) k p ∙ found.0 in
         (sym parts ∙ (λ i. front i ++ found.1 i), found.2, found.3)

@@ -1,23 +1,17 @@
 -- How a text is read line by line.
-use Rattle.std.proofs.Common.{◌≡◌, ℕ, zero, suc, ◌+◌, ◌-◌, ◌<◌, ◌≤◌, ◌==◌, Bool, true, false, nat_eq, nat_lt, if◌then◌else◌}
-use Rattle.std.proofs.Common.{List, [], ◌∷◌, ◌++◌, length, drop, drop-drop, length-drop, length-append, append_assoc, append-nil}
+use Rattle.std.proofs.Common.{◌≡◌, ℕ, ◌+◌, ◌-◌, ◌<◌, ◌≤◌, Bool, true, false, nat_eq, nat_lt, if◌then◌else◌}
+use Rattle.std.proofs.Common.{List, [], ◌∷◌, ◌++◌, length, drop, drop-drop, length-drop, length-append, append_assoc}
 use Rattle.std.proofs.Common.{Option, Some, None, Result, Ok, Err, refl, sym, ap, ◌∙◌, subst, arith, inl, inr, drop_of_length-le}
-use Rattle.std.specs.Prelude.{All}
-use Rattle.std.proofs.lemmas.Bool.{ne_eqb, eqb-true, eqb-false, eq-eqb, ltb-true, ltb-false}
-use Rattle.std.proofs.lemmas.Option.{cond_some}
-use Rattle.std.specs.List.{flat_map}
+use Rattle.std.proofs.lemmas.Bool.{ne_eqb, eqb-true, eqb-false, ltb-true, ltb-false}
 use Rattle.msg_frames.specs.declared.message.Message.{Message}
-use Rattle.tandem_base.specs.Texts.{newline}
-use Rattle.trace_text.specs.Lines.{words_of, line_of, text_of}
 use Rattle.trace_text.specs.Reading.{line_read}
-use Rattle.trace_text.specs.Texts.{Spellable, Lines, put_byte, lines_of, fault_at, left_fault, left_read, message_before}
+use Rattle.trace_text.specs.Texts.{Lines, put_byte, lines_of, left_fault, left_read, message_before}
 use Rattle.trace_text.specs.Texts.{line_before, lines_read, text_from, line_answer, line_at}
 use Rattle.trace_text.specs.Words.{until}
 use Rattle.trace_text.specs.declared.fault.TextFault.{TextFault}
 use Rattle.trace_text.specs.declared.fault.TextFault.TheVariants as fault
 use Rattle.trace_text.specs.declared.text_line.TextLine.{TextLine}
 use Rattle.trace_text.proofs.Clean.{Lacks, Breaks, breaks_at, until_and_rest, until_all}
-use Rattle.trace_text.proofs.LineFound.{line_found}
 
 -- ---- lines
 
@@ -35,8 +29,10 @@ pub lines_ended : (front rest : List ℕ) → Lacks 10 front
     → lines_of (front ++ (10 ∷ rest)) ≡ record { whole = front ∷ (lines_of rest).whole; left = (lines_of rest).left }
 lines_ended [] rest plain = refl
 lines_ended (x ∷ xs) rest plain =
-    ap (λ (b : Bool). if b then record { whole = [] ∷ (lines_of (xs ++ (10 ∷ rest))).whole;
-      left = (lines_of (xs ++ (10 ∷ rest))).left } else put_byte x (lines_of (xs ++ (10 ∷ rest))).whole
+    ap (λ (b : Bool). if b then record {
+      whole = [] ∷ (lines_of (xs ++ (10 ∷ rest))).whole;
+      left = (lines_of (xs ++ (10 ∷ rest))).left;
+    } else put_byte x (lines_of (xs ++ (10 ∷ rest))).whole
     (lines_of (xs ++ (10 ∷ rest))).left) (ne_eqb x 10 plain.0)
     ∙ ap (λ (l : Lines). put_byte x l.whole l.left) (lines_ended xs rest plain.1)
 
@@ -81,11 +77,13 @@ next_none text start number e = decide (nat_eq start (length text)) refl e
         → text_from number (drop start text) ≡ Ok []
     some true message h = cc
     some false message h = cc
+
     answer : (r : Result Message ℕ)
         → line_answer (length text) start (start + length (until 10 (drop start text))) r ≡ Ok None
         → text_from number (drop start text) ≡ Ok []
     answer (Ok message) h = some (nat_lt (start + length (until 10 (drop start text))) (length text)) message (answer_is (nat_lt (start + length (until 10 (drop start text))) (length text)) message (start + length (until 10 (drop start text))) start (Ok None) h)
     answer (Err place) h = cc
+
     decide : (b : Bool) → nat_eq start (length text) ≡ b
         → (if b then Ok None else line_answer (length text) start (start + length (until 10 (drop start text)))
         (line_read (until 10 (drop start text)))) ≡ Ok None
@@ -111,9 +109,9 @@ ended_parts text start short =
     ))
     told rest p (inr some) =
         let there : drop (start + length (until 10 (drop start text))) text ≡ 10 ∷ some.0 =
-            sym (drop-drop (length (until 10 (drop start text))) start text) ∙ p ∙ some.1 in
+        sym (drop-drop (length (until 10 (drop start text))) start text) ∙ p ∙ some.1 in
         let behind : some.0 ≡ drop (start + length (until 10 (drop start text)) + 1) text =
-            ap (drop 1) (sym there) ∙ drop-drop 1 (start + length (until 10 (drop start text))) text in
+        ap (drop 1) (sym there) ∙ drop-drop 1 (start + length (until 10 (drop start text))) text in
         sym (until_and_rest 10 (drop start text)) ∙ ap (λ l. until 10 (drop start text) ++ l) (p ∙ some.1 ∙ ap (λ l. 10 ∷ l) behind)
 
 -- where there is no newline the line is the rest of the text
@@ -146,6 +144,7 @@ next_some text start number line e = decide (nat_eq start (length text)) refl e
         ∙ text_ended number (until 10 (drop start text)) (drop (start + length (until 10 (drop start text)) + 1) text)
         (until_lacks 10 (drop start text))
         ∙ ap (λ r. line_before number r (text_from (number + 1) (drop (start + length (until 10 (drop start text)) + 1) text))) p
+
     by_end : (b : Bool) (message : Message) → line_read (until 10 (drop start text)) ≡ Ok message
         → nat_lt (start + length (until 10 (drop start text))) (length text) ≡ b
         → answer_by b message (start + length (until 10 (drop start text))) start ≡ Ok (Some line)
@@ -159,11 +158,13 @@ next_some text start number line e = decide (nat_eq start (length text)) refl e
         value_of (Ok (Some l)) = l
         value_of (Ok None) = line
         value_of (Err place) = line
+
         line_is : (m : Message) → ◌≡◌ {A = Result (Option TextLine) ℕ}
             (Ok (Some (record { message = m; next = start + length (until 10 (drop start text)) + 1 }))) (Ok (Some line))
             → record { message = m; next = start + length (until 10 (drop start text)) + 1 } ≡ line
         line_is m same = ap value_of same
     by_end false message p q h = cc
+
     answer : (r : Result Message ℕ) → line_read (until 10 (drop start text)) ≡ r
         → line_answer (length text) start (start + length (until 10 (drop start text))) r ≡ Ok (Some line)
         → text_from number (drop start text) ≡ message_before line.message (text_from (number + 1) (drop line.next text))
@@ -172,6 +173,7 @@ next_some text start number line e = decide (nat_eq start (length text)) refl e
         (answer_is (nat_lt (start + length (until 10 (drop start text))) (length text)) message
         (start + length (until 10 (drop start text))) start (Ok (Some line)) h)
     answer (Err place) p h = cc
+
     decide : (b : Bool) → nat_eq start (length text) ≡ b
         → (if b then Ok None else line_answer (length text) start (start + length (until 10 (drop start text)))
         (line_read (until 10 (drop start text)))) ≡ Ok (Some line)
@@ -201,16 +203,18 @@ next_err text start number column low e = decide (nat_eq start (length text)) re
         (until_lacks 10 (drop start text))
         ∙ ap (λ r. line_before number r (text_from (number + 1) (drop (start + length (until 10 (drop start text)) + 1) text))) p
         ∙ ap (λ n. Err (fault.Form number n)) same
+
     last_line : (r : Result Message ℕ) → line_read (until 10 (drop start text)) ≡ r
         → (start + length (until 10 (drop start text)) < length text → ⊥) → (start ≡ length text → ⊥)
         → text_from number (drop start text) ≡ Err (left_fault number (drop start text) r)
     last_line r p long open_end =
         let whole = left_whole text start long in
         let some : nat_eq (length (drop start text)) 0 ≡ false =
-            ne_eqb _ 0 (λ none. open_end (omega (arith, low, none, length-drop start text))) in
+        ne_eqb _ 0 (λ none. open_end (omega (arith, low, none, length-drop start text))) in
         text_left number (drop start text) (subst (Lacks 10) whole (until_lacks 10 (drop start text)))
         ∙ ap (λ (b : Bool). if b then Ok [] else Err (left_fault number (drop start text) (line_read (drop start text)))) some
         ∙ ap (λ q. Err (left_fault number (drop start text) q)) (ap line_read (sym whole) ∙ p)
+
     wrong : (b : Bool) (place : ℕ) → nat_lt (start + length (until 10 (drop start text))) (length text) ≡ b
         → line_read (until 10 (drop start text)) ≡ Err place → place + 1 ≡ column → (start ≡ length text → ⊥)
         → text_from number (drop start text) ≡ Err (fault.Form number column)
@@ -220,6 +224,7 @@ next_err text start number column low e = decide (nat_eq start (length text)) re
       where
         not_below : (a b : ℕ) → nat_lt a b ≡ false → a < b → ⊥
         not_below a b t short = omega (arith, ltb-false a b t, short)
+
     by_end : (b : Bool) (message : Message) → line_read (until 10 (drop start text)) ≡ Ok message
         → nat_lt (start + length (until 10 (drop start text))) (length text) ≡ b
         → answer_by b message (start + length (until 10 (drop start text))) start ≡ Err column → (start ≡ length text → ⊥)
@@ -227,10 +232,11 @@ next_err text start number column low e = decide (nat_eq start (length text)) re
     by_end true message p q h open_end = cc
     by_end false message p q h open_end =
         let long : start + length (until 10 (drop start text)) < length text → ⊥ =
-            λ short. omega (arith, ltb-false _ _ q, short) in
+        λ short. omega (arith, ltb-false _ _ q, short) in
         let size = ap length (left_whole text start long) in
         last_line (Ok message) p long open_end
         ∙ ap (λ n. Err (fault.Form number n)) (omega (arith, err_is _ column h, size))
+
     answer : (r : Result Message ℕ) → line_read (until 10 (drop start text)) ≡ r → (start ≡ length text → ⊥)
         → line_answer (length text) start (start + length (until 10 (drop start text))) r ≡ Err column
         → text_from number (drop start text) ≡ Err (fault.Form number column)
@@ -241,6 +247,7 @@ next_err text start number column low e = decide (nat_eq start (length text)) re
     answer (Err place) p open_end h =
         wrong (nat_lt (start + length (until 10 (drop start text))) (length text)) place refl p (err_is (place + 1) column h)
         open_end
+
     decide : (b : Bool) → nat_eq start (length text) ≡ b
         → (if b then Ok None else line_answer (length text) start (start + length (until 10 (drop start text)))
         (line_read (until 10 (drop start text)))) ≡ Err column

@@ -1,13 +1,13 @@
 -- Each value is read from its spelling, and from nothing else.
-use Rattle.std.proofs.Common.{◌≡◌, ℕ, zero, suc, ◌+◌, ◌-◌, ◌*◌, ◌/◌, ◌%◌, ◌^◌, ◌<◌, ◌≤◌, Bool, true, false, ◌&&◌, nat_eq, nat_le}
+use Rattle.std.proofs.Common.{◌≡◌, ℕ, zero, suc, ◌/◌, ◌%◌, ◌^◌, ◌<◌, ◌≤◌, Bool, true, false, ◌&&◌, nat_eq, nat_le}
 use Rattle.std.proofs.Common.{◌==◌, if◌then◌else◌, List, [], ◌∷◌, ◌++◌, length, drop, codes, refl, sym, ap, ◌∙◌, subst, arith}
 use Rattle.std.proofs.Common.{Option, Some, None, IfSome, Result, Ok, Err, IsTrue}
 use Rattle.std.specs.Prelude.{All}
-use Rattle.std.proofs.Common.{append-nil, append_assoc, length-append, drop-drop, length-drop, get_or, zero-add, ◌⊎◌, inl, inr}
+use Rattle.std.proofs.Common.{append-nil, append_assoc, length-append, drop-drop, get_or, zero-add, inl, inr}
 use Rattle.std.proofs.lemmas.Bool.{ne_eqb, eq-eqb, eqb-true, leb-true}
 use Rattle.std.proofs.lemmas.Bool.Decides.{nat_tests}
 use Rattle.std.proofs.lemmas.Option.{cond_some}
-use Rattle.std.specs.Cmp.Lexicographic.{pointwise, same_text}
+use Rattle.std.specs.Cmp.Lexicographic.{same_text}
 use Rattle.std.specs.Fmt.{decimal}
 use Rattle.std.specs.Int.{bit_at}
 use Rattle.std.specs.List.{starts_with}
@@ -25,11 +25,11 @@ use Rattle.msg_frames.specs.declared.message.Target.TheVariants.{Pc, X, Csr}
 use Rattle.msg_frames.specs.declared.message.RdValue.{RdValue}
 use Rattle.msg_frames.specs.Frames.{is_poked_csr, FitsTarget}
 use Rattle.numerals.proofs.SpellingLaws.{decimal_found, decimal_back, hexadecimal_found, hexadecimal_back}
-use Rattle.numerals.proofs.TextLaws.{alike, unlike, starts, started}
+use Rattle.numerals.proofs.TextLaws.{alike, unlike, starts}
 use Rattle.numerals.specs.Numerals.{decimal_in, hexadecimal, hexadecimal_in}
 use Rattle.std.specs.List.{flat_map}
 use Rattle.trace_text.specs.Lines.{target_text, trap_text, rd_text, csr_text, next_csr_text, csrs_text}
-use Rattle.trace_text.specs.Values.{most16, most32, most64, is_text, at_least, between, if_multiple, multiple, poked}
+use Rattle.trace_text.specs.Values.{most16, most64, is_text, at_least, between, if_multiple, multiple, poked}
 use Rattle.trace_text.specs.Values.{target_in, poked_value_in, trap_in, rd_of, register_in, rd_in}
 use Rattle.trace_text.specs.Values.{csr_of, csr_in, csr_before, some_csrs_in, csrs_in}
 use Rattle.trace_text.specs.Values.{if_written, bytes_in, piece_bytes_in, nothing, is_masked, if_masked, line_bytes_in}
@@ -108,11 +108,13 @@ target_read text target e = first (is_text text (codes "pc")) refl e
         let found = between_read 1 31 n (drop 1 text) p in
         subst (λ (t : Target). (text ≡ target_text t) × TargetFits t) (cond_some true (X n) target h).1
         (starts (codes "x") text x ∙ ap (λ l. 120 ∷ l) found.0, (found.1, found.2))
+
     second : (b : Bool) → starts_with nat_eq text (codes "x") ≡ b
         → (if b then option_map (λ number. X number) (between 1 31 (drop 1 text)) else poked (hexadecimal_in most16 text))
         ≡ Some target → (text ≡ target_text target) × TargetFits target
     second true p h = register (between 1 31 (drop 1 text)) refl p h
     second false p h = poked_told text (hexadecimal_in most16 text) target refl h
+
     first : (b : Bool) → is_text text (codes "pc") ≡ b
         → (if b then Some Pc else if starts_with nat_eq text (codes "x")
         then option_map (λ number. X number) (between 1 31 (drop 1 text)) else poked (hexadecimal_in most16 text))
@@ -165,6 +167,7 @@ trap_read text trap e = first (is_text text (codes "-")) refl e
         let found = between_read 0 255 n text p in
         subst (λ (t : Option ℕ). (text ≡ trap_text t) × IfSome t (λ cause. cause ≤ 255))
         (cond_some true (Some n) trap h).1 (found.0, found.2)
+
     first : (b : Bool) → is_text text (codes "-") ≡ b
         → (if b then Some None else option_map (λ cause. Some cause) (between 0 255 text)) ≡ Some trap
         → (text ≡ trap_text trap) × IfSome trap (λ cause. cause ≤ 255)
@@ -196,11 +199,11 @@ parted_at stop text front byte back before after =
         → until stop text ++ drop (length (until stop text)) text ≡ front ++ (stop ∷ (byte ∷ back))
     told rest p (inl none) =
         let empty : [] ≡ byte ∷ back =
-            ap (drop 1) (sym (p ∙ none)) ∙ drop-drop 1 (length (until stop text)) text ∙ after in
+        ap (drop 1) (sym (p ∙ none)) ∙ drop-drop 1 (length (until stop text)) text ∙ after in
         absurd (omega (arith, ap length empty))
     told rest p (inr some) =
         let more : some.0 ≡ byte ∷ back =
-            ap (drop 1) (sym (p ∙ some.1)) ∙ drop-drop 1 (length (until stop text)) text ∙ after in
+        ap (drop 1) (sym (p ∙ some.1)) ∙ drop-drop 1 (length (until stop text)) text ∙ after in
         ap (λ l. until stop text ++ l) (p ∙ some.1 ∙ ap (λ l. stop ∷ l) more)
         ∙ ap (λ l. l ++ (stop ∷ (byte ∷ back))) before
 
@@ -241,9 +244,9 @@ register_back rd fits =
     let parts = number_first (decimal rd.number) rd.value (decimal_lacks 58 rd.number (omega (arith, fits.1)) refl) in
     let text = decimal rd.number ++ (58 ∷ hexadecimal rd.value) in
     let number : between 1 31 (until 58 text) ≡ Some rd.number =
-        ap (between 1 31) parts.0 ∙ between_back 1 31 rd.number (omega arith) fits.0 fits.1 in
+    ap (between 1 31) parts.0 ∙ between_back 1 31 rd.number (omega arith) fits.0 fits.1 in
     let value : hexadecimal_in most64 (behind 58 text) ≡ Some rd.value =
-        ap (hexadecimal_in most64) parts.1 ∙ hexadecimal_back most64 rd.value (omega arith) fits.2 in
+    ap (hexadecimal_in most64) parts.1 ∙ hexadecimal_back most64 rd.value (omega arith) fits.2 in
     λ i. rd_of (number i) (value i)
 
 pub rd_read : (text : List ℕ) (rd : Option RdValue) → rd_in text ≡ Some rd
@@ -255,14 +258,18 @@ rd_read text rd e = first (is_text text (codes "-")) refl e
     written None p x h = cc
     written (Some r) p x h =
         let found = register_read (drop 1 text) r p in
-        subst (λ (t : Option RdValue). (text ≡ rd_text t) × IfSome t RdFits) (cond_some true (Some r) rd h).1
-        (starts (codes "x") text x ∙ ap (λ l. 120 ∷ l)
-        (found.0 ∙ sym (append_assoc (decimal r.number) (codes ":") (hexadecimal r.value))), found.1)
+        subst (λ (t : Option RdValue). (text ≡ rd_text t) × IfSome t RdFits) (cond_some true (Some r) rd h).1 (
+          starts (codes "x") text x ∙ ap (λ l. 120 ∷ l)
+              (found.0 ∙ sym (append_assoc (decimal r.number) (codes ":") (hexadecimal r.value))),
+          found.1,
+        )
+
     second : (b : Bool) → starts_with nat_eq text (codes "x") ≡ b
         → (if b then option_map (λ r. Some r) (register_in (drop 1 text)) else None) ≡ Some rd
         → (text ≡ rd_text rd) × IfSome rd RdFits
     second true p h = written (register_in (drop 1 text)) refl p h
     second false p h = cc
+
     first : (b : Bool) → is_text text (codes "-") ≡ b
         → (if b then Some None else if starts_with nat_eq text (codes "x")
         then option_map (λ r. Some r) (register_in (drop 1 text)) else None) ≡ Some rd
@@ -280,10 +287,12 @@ rd_back (Some rd) fits =
 
 pub rd_clean : (rd : Option RdValue) → IfSome rd RdFits → Clean (rd_text rd)
 rd_clean None fits = clean_by (codes "-") refl
-rd_clean (Some rd) fits =
-    (omega arith, clean_append (decimal rd.number ++ codes ":") (hexadecimal rd.value) (clean_append (decimal rd.number)
-    (codes ":") (decimal_clean rd.number (omega (arith, fits.1))) (clean_by (codes ":") refl))
-    (hexadecimal_clean rd.value (omega (arith, fits.2))))
+rd_clean (Some rd) fits = (
+  omega arith,
+  clean_append (decimal rd.number ++ codes ":") (hexadecimal rd.value) (clean_append (decimal rd.number)
+      (codes ":") (decimal_clean rd.number (omega (arith, fits.1))) (clean_by (codes ":") refl))
+      (hexadecimal_clean rd.value (omega (arith, fits.2))),
+)
 
 -- ---- the CSRs
 
@@ -301,19 +310,21 @@ csr_read text csr e = told (hexadecimal_in most16 (until 58 text)) (hexadecimal_
         let number = hexadecimal_read most16 n (until 58 text) p in
         let value = hexadecimal_read most64 v (behind 58 text) r in
         subst (λ (x : CsrValue). (text ≡ csr_text x) × CsrFits x)
-        (cond_some true (record { number = n; value = v }) csr h).1
-        (both_read text (hexadecimal n) v number.0 value.0
-        ∙ sym (append_assoc (hexadecimal n) (codes ":") (hexadecimal v)), (number.1, value.1))
+        (cond_some true (record { number = n; value = v }) csr h).1 (
+          both_read text (hexadecimal n) v number.0 value.0
+              ∙ sym (append_assoc (hexadecimal n) (codes ":") (hexadecimal v)),
+          (number.1, value.1),
+        )
 
 csr_back : (csr : CsrValue) → CsrFits csr → csr_in (csr_text csr) ≡ Some csr
 csr_back csr fits =
     let parts = number_first (hexadecimal csr.number) csr.value
-            (hexadecimal_lacks 58 csr.number (omega (arith, fits.0)) refl) in
+    (hexadecimal_lacks 58 csr.number (omega (arith, fits.0)) refl) in
     let text = hexadecimal csr.number ++ (58 ∷ hexadecimal csr.value) in
     let number : hexadecimal_in most16 (until 58 text) ≡ Some csr.number =
-        ap (hexadecimal_in most16) parts.0 ∙ hexadecimal_back most16 csr.number (omega arith) fits.0 in
+    ap (hexadecimal_in most16) parts.0 ∙ hexadecimal_back most16 csr.number (omega arith) fits.0 in
     let value : hexadecimal_in most64 (behind 58 text) ≡ Some csr.value =
-        ap (hexadecimal_in most64) parts.1 ∙ hexadecimal_back most64 csr.value (omega arith) fits.1 in
+    ap (hexadecimal_in most64) parts.1 ∙ hexadecimal_back most64 csr.value (omega arith) fits.1 in
     let read : csr_in text ≡ Some csr = λ i. csr_of (number i) (value i) in
     ap csr_in (append_assoc (hexadecimal csr.number) (codes ":") (hexadecimal csr.value)) ∙ read
 
@@ -378,6 +389,7 @@ csrs_read (suc room) text csrs e =
     more later csr p None q h = cc
     more later csr p (Some others) q h =
         csr_then room text csr csrs others p (cond_some true (csr ∷ others) csrs h).1 (later others q)
+
     test : ((others : List CsrValue) → some_csrs_in room (behind 44 text) ≡ Some others
         → SomeCsrs room (behind 44 text) others) → (csr : CsrValue) → csr_in (until 44 text) ≡ Some csr
         → (b : Bool) → nat_eq (length (until 44 text)) (length text) ≡ b
@@ -386,6 +398,7 @@ csrs_read (suc room) text csrs e =
     test later csr p true q h =
         last_csr room text csr csrs p (cond_some true (csr ∷ []) csrs h).1 (eqb-true _ _ q)
     test later csr p false q h = more later csr p (some_csrs_in room (behind 44 text)) refl h
+
     first : ((others : List CsrValue) → some_csrs_in room (behind 44 text) ≡ Some others
         → SomeCsrs room (behind 44 text) others) → (o : Option CsrValue) → csr_in (until 44 text) ≡ o
         → csr_before o (if nat_eq (length (until 44 text)) (length text) then Some []
@@ -399,6 +412,7 @@ csr_list_read text csrs e = first (is_text text (codes "-")) refl e
   where
     told : SomeCsrs 4 text csrs → (text ≡ csrs_text csrs) × (length csrs ≤ 4) × All CsrFits csrs
     told (some next more e is few fits) = (is ∙ ap csrs_text (sym e), few, fits)
+
     first : (b : Bool) → is_text text (codes "-") ≡ b
         → (if b then Some [] else some_csrs_in 4 text) ≡ Some csrs
         → (text ≡ csrs_text csrs) × (length csrs ≤ 4) × All CsrFits csrs
@@ -416,10 +430,10 @@ some_csrs_back (suc room) first [] few fits =
     let text = csrs_text (first ∷ []) in
     let fit : CsrFits first = fits 0 first (omega arith) in
     let front : until 44 text ≡ csr_text first =
-        ap (until 44) (append-nil (csr_text first)) ∙ until_whole 44 (csr_text first) (csr_lacks first fit) in
+    ap (until 44) (append-nil (csr_text first)) ∙ until_whole 44 (csr_text first) (csr_lacks first fit) in
     let read : csr_in (until 44 text) ≡ Some first = ap csr_in front ∙ csr_back first fit in
     let test : nat_eq (length (until 44 text)) (length text) ≡ true =
-        eq-eqb _ _ (ap length front ∙ ap length (sym (append-nil (csr_text first)))) in
+    eq-eqb _ _ (ap length front ∙ ap length (sym (append-nil (csr_text first)))) in
     λ i. csr_before (read i) (if test i then Some [] else some_csrs_in room (behind 44 text))
 some_csrs_back (suc room) first (next ∷ more) few fits =
     let rest = csrs_text (next ∷ more) in
@@ -429,10 +443,10 @@ some_csrs_back (suc room) first (next ∷ more) few fits =
     let front : until 44 text ≡ csr_text first = until_front 44 (csr_text first) rest plain in
     let read : csr_in (until 44 text) ≡ Some first = ap csr_in front ∙ csr_back first fit in
     let test : nat_eq (length (until 44 text)) (length text) ≡ false =
-        ne_eqb _ _ (λ same. omega (arith, same, ap length front, length-append (csr_text first) (44 ∷ rest))) in
+    ne_eqb _ _ (λ same. omega (arith, same, ap length front, length-append (csr_text first) (44 ∷ rest))) in
     let later : some_csrs_in room (behind 44 text) ≡ Some (next ∷ more) =
-        ap (some_csrs_in room) (behind_front 44 (csr_text first) rest plain)
-        ∙ some_csrs_back room next more (omega (arith, few)) (all_later first (next ∷ more) fits) in
+    ap (some_csrs_in room) (behind_front 44 (csr_text first) rest plain)
+    ∙ some_csrs_back room next more (omega (arith, few)) (all_later first (next ∷ more) fits) in
     λ i. csr_before (read i) (if test i then Some [] else later i)
 
 pub csr_list_back : (csrs : List CsrValue) → length csrs ≤ 4 → All CsrFits csrs → csrs_in (csrs_text csrs) ≡ Some csrs
@@ -441,9 +455,11 @@ csr_list_back (csr ∷ csrs) few fits = some_csrs_back 4 csr csrs few fits
 
 next_clean : (csrs : List CsrValue) → All CsrFits csrs → Clean (flat_map next_csr_text csrs)
 next_clean [] fits = tt
-next_clean (csr ∷ csrs) fits =
-    (omega arith, clean_append (csr_text csr) (flat_map next_csr_text csrs) (csr_clean csr (fits 0 csr (omega arith)))
-    (next_clean csrs (all_later csr csrs fits)))
+next_clean (csr ∷ csrs) fits = (
+  omega arith,
+  clean_append (csr_text csr) (flat_map next_csr_text csrs) (csr_clean csr (fits 0 csr (omega arith)))
+      (next_clean csrs (all_later csr csrs fits)),
+)
 
 pub csrs_clean : (csrs : List CsrValue) → All CsrFits csrs → Clean (csrs_text csrs)
 csrs_clean [] fits = clean_by (codes "-") refl
@@ -474,7 +490,7 @@ unfolding bytes_in
 bytes_back count bytes sized fits =
     let size = length-encode_with lower_digits bytes in
     let decoded : decode_sized (encode_lower bytes) count ≡ Ok bytes =
-        decode_sized-twice (encode_lower bytes) count (omega (arith, size, sized)) ∙ decode_of-encode_lower bytes fits in
+    decode_sized-twice (encode_lower bytes) count (omega (arith, size, sized)) ∙ decode_of-encode_lower bytes fits in
     ap (if_written (encode_lower bytes)) decoded
     ∙ ap (λ (b : Bool). if b then Some bytes else None) (alike (encode_lower bytes) (encode_lower bytes) refl)
 
@@ -522,15 +538,19 @@ line_bytes_read mask text bytes e = told (bytes_in 64 text) refl e
         let both = cond_some (is_masked mask found) found bytes h in
         let is = bytes_read 64 text found p in
         subst (λ (l : List ℕ). (text ≡ encode_lower l) × (length l ≡ 64) × IsBytes l
-        × ((k : ℕ) → k < 64 → bit_at mask k ≡ 0 → get_or l k 0 ≡ 0)) both.1
-        (is.0, is.1, is.2, λ k below outside. unmasked_ok mask 0 found (nothing_is (unmasked_zeros mask 0 found) both.0) k
-        (rw zero-add outside))
+        × ((k : ℕ) → k < 64 → bit_at mask k ≡ 0 → get_or l k 0 ≡ 0)) both.1 (
+          is.0,
+          is.1,
+          is.2,
+          λ k below outside. unmasked_ok mask 0 found (nothing_is (unmasked_zeros mask 0 found) both.0) k
+              (rw zero-add outside),
+        )
 
 pub line_bytes_back : (mask : ℕ) (bytes : List ℕ) → length bytes ≡ 64 → IsBytes bytes
     → ((k : ℕ) → k < 64 → bit_at mask k ≡ 0 → get_or bytes k 0 ≡ 0)
     → line_bytes_in mask (encode_lower bytes) ≡ Some bytes
 line_bytes_back mask bytes sized fits outside =
     let clear : unmasked_zeros mask 0 bytes ≡ None =
-        unmasked_from mask 0 bytes (λ k below out. outside k (omega (arith, sized)) (rw zero-add at out)) in
+    unmasked_from mask 0 bytes (λ k below out. outside k (omega (arith, sized)) (rw zero-add at out)) in
     ap (if_masked mask) (bytes_back 64 bytes sized fits)
     ∙ ap (λ o. if nothing o then Some bytes else None) clear

@@ -1,26 +1,22 @@
 -- A text that is read is the lines of its messages, and those lines are read as these messages.
-use Rattle.std.proofs.Common.{◌≡◌, ℕ, zero, suc, ◌+◌, ◌<◌, Bool, true, false, nat_eq, if◌then◌else◌, List, [], ◌∷◌, ◌++◌, length}
-use Rattle.std.proofs.Common.{Option, Some, None, IfSome, Result, Ok, Err, refl, sym, ap, ◌∙◌, subst, arith, append_assoc, append-nil}
+use Rattle.std.proofs.Common.{◌≡◌, ℕ, zero, suc, ◌+◌, Bool, true, false, nat_eq, if◌then◌else◌, List, [], ◌∷◌, ◌++◌, length}
+use Rattle.std.proofs.Common.{Result, Ok, Err, refl, sym, ap, ◌∙◌, subst, arith, append_assoc}
 use Rattle.std.proofs.Common.{◌⊎◌, inl, inr}
 use Rattle.std.specs.Prelude.{All, IfOk}
 use Rattle.std.proofs.lemmas.Bool.{eqb-true}
 use Rattle.std.specs.List.{flat_map}
 use Rattle.msg_frames.specs.declared.message.Message.{Message}
-use Rattle.msg_frames.specs.declared.message.Head.{Head}
-use Rattle.msg_frames.specs.declared.message.Body.{Body}
-use Rattle.msg_frames.specs.declared.message.Body.TheVariants as body
-use Rattle.msg_frames.specs.Frames.{Fits, InRange}
 use Rattle.tandem_base.specs.Texts.{newline}
-use Rattle.trace_text.specs.Lines.{spaced, fields_of, kind_word, words_of, line_of, text_of}
+use Rattle.trace_text.specs.Lines.{spaced, fields_of, kind_word, words_of, text_of}
 use Rattle.trace_text.specs.Reading.{line_read}
-use Rattle.trace_text.specs.Texts.{Spellable, Lines, put_byte, lines_of, fault_at, left_fault, left_read, message_before}
+use Rattle.trace_text.specs.Texts.{Spellable, Lines, put_byte, lines_of, left_fault, message_before}
 use Rattle.trace_text.specs.Texts.{line_before, lines_read, text_from, text_read}
 use Rattle.trace_text.specs.declared.fault.TextFault.{TextFault}
 use Rattle.trace_text.specs.declared.fault.TextFault.TheVariants.{Memory}
-use Rattle.trace_text.proofs.Clean.{Clean, Lacks, clean_lacks, lacks_append}
+use Rattle.trace_text.proofs.Clean.{Lacks, clean_lacks, lacks_append}
 use Rattle.trace_text.proofs.LineBack.{fields_clean, line_reads, word_clean, FieldsClean}
 use Rattle.trace_text.proofs.LineFound.{line_found}
-use Rattle.trace_text.proofs.TextLaws.{text_ended, text_left}
+use Rattle.trace_text.proofs.TextLaws.{text_ended}
 
 -- ---- what is read is there
 
@@ -42,6 +38,7 @@ lines_whole (x ∷ xs) = decide (lines_whole xs) (nat_eq x 10) refl
     parts : Bool → Lines
     parts b = if b then record { whole = [] ∷ (lines_of xs).whole; left = (lines_of xs).left }
         else put_byte x (lines_of xs).whole (lines_of xs).left
+
     decide : xs ≡ flat_map with_newline (lines_of xs).whole ++ (lines_of xs).left → (b : Bool) → nat_eq x 10 ≡ b
         → x ∷ xs ≡ flat_map with_newline (parts b).whole ++ (parts b).left
     decide later true p = (λ i. eqb-true x 10 p i ∷ later i)
@@ -75,6 +72,7 @@ lines_found number [] left messages e = decide (nat_eq (length left) 0) refl e
     none_left : (l : List ℕ) → length l ≡ 0 → l ≡ []
     none_left [] p = refl
     none_left (x ∷ xs) p = absurd (omega (arith, p))
+
     decide : (b : Bool) → nat_eq (length left) 0 ≡ b
         → (if b then Ok [] else Err (left_fault number left (line_read left))) ≡ Ok messages → Told [] left messages
     decide true p h =
@@ -87,9 +85,12 @@ lines_found number (line ∷ lines) left messages e =
     both : (message : Message) → line_read line ≡ Ok message → (more : List Message) → Told lines left more
         → Told (line ∷ lines) left (message ∷ more)
     both message p more told =
-        let found = line_found line message p in
-        (append_assoc (with_newline line) (flat_map with_newline lines) left
-        ∙ (λ i. (found.0 i ++ newline) ++ told.0 i), all_first message more (found.1, found.2) told.1)
+        let found = line_found line message p in (
+          append_assoc (with_newline line) (flat_map with_newline lines) left
+              ∙ (λ i. (found.0 i ++ newline) ++ told.0 i),
+          all_first message more (found.1, found.2) told.1,
+        )
+
     second : ((more : List Message) → lines_read (number + 1) lines left ≡ Ok more → Told lines left more)
         → (message : Message) → line_read line ≡ Ok message → (r : Result (List Message) TextFault)
         → lines_read (number + 1) lines left ≡ r → message_before message r ≡ Ok messages
@@ -98,6 +99,7 @@ lines_found number (line ∷ lines) left messages e =
         subst (λ (l : List Message). Told (line ∷ lines) left l) (list_is (message ∷ more) messages h)
         (both message p more (later more q))
     second later message p (Err broken) q h = cc
+
     first : ((more : List Message) → lines_read (number + 1) lines left ≡ Ok more → Told lines left more)
         → (r : Result Message ℕ) → line_read line ≡ r
         → line_before number r (lines_read (number + 1) lines left) ≡ Ok messages → Told (line ∷ lines) left messages
@@ -116,9 +118,11 @@ text_found text messages e =
 
 spaced_lack : (fields : List (List ℕ)) → FieldsClean fields → Lacks 10 (flat_map spaced fields)
 spaced_lack [] fit = tt
-spaced_lack (field ∷ fields) fit =
-    ((λ same. omega (arith, same)), lacks_append 10 field (flat_map spaced fields) (clean_lacks 10 field (omega arith) fit.0)
-    (spaced_lack fields fit.1))
+spaced_lack (field ∷ fields) fit = (
+  (λ same. omega (arith, same)),
+  lacks_append 10 field (flat_map spaced fields) (clean_lacks 10 field (omega arith) fit.0)
+      (spaced_lack fields fit.1),
+)
 
 words_lack : (message : Message) → Spellable message → Lacks 10 (words_of message)
 words_lack message fit =

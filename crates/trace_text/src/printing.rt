@@ -24,11 +24,7 @@ pub fn to_text<K: Sink>(message: &Message, out: &mut K) -> Result<(), WriteFaile
 }
 
 // Writes the line, over lent bytes.
-fn print_over<K: Sink>(
-    message: &Message,
-    text: &mut [u8],
-    out: &mut K,
-) -> Result<(), WriteFailed>
+fn print_over<K: Sink>(message: &Message, text: &mut [u8], out: &mut K) -> Result<(), WriteFailed>
     requires { length text.old ≡ 330 }
     ensures ok { OnOk result (Appends (K.written out.old) (K.written out.new) (line_of message.now)) }
     ensures err { IfErr result (λ failed.

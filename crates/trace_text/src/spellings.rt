@@ -28,13 +28,7 @@ pub(crate) fn between(text: &[u8], least: u64, most: u64) -> Option<u64>
     ensures high { IfSome result (λ n. n ≤ most) }
 {
     match read_decimal(text, most) {
-        Some(n) => {
-            if least <= n {
-                Some(n)
-            } else {
-                None
-            }
-        }
+        Some(n) => { if least <= n { Some(n) } else { None } }
         None => None,
     }
 }
@@ -45,13 +39,7 @@ pub(crate) fn multiple(text: &[u8], unit: u64) -> Option<u64>
     ensures { result ≡ multiple unit text.now }
 {
     match read_hexadecimal(text, u64::MAX) {
-        Some(n) => {
-            if n % unit == 0 {
-                Some(n)
-            } else {
-                None
-            }
-        }
+        Some(n) => { if n % unit == 0 { Some(n) } else { None } }
         None => None,
     }
 }

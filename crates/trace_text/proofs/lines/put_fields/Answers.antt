@@ -1,8 +1,8 @@
 use Rattle.std.proofs.Common.{refl, sym, ◌∙◌, ◌∷◌, []}
 use Rattle.std.proofs.lemmas.Grind.{flat_map-append}
 use Rattle.tandem_base.proofs.PutsLaws.{puts_then, puts_as}
-use Rattle.trace_text.specs.Lines.{spaced, hart_field, time_field, tag_field, open_fields, poke_fields}
-use Rattle.trace_text.specs.Lines.{piece_fields, write_fields, retire_fields}
+use Rattle.trace_text.specs.Lines.{spaced, hart_field, time_field, tag_field, poke_fields}
+use Rattle.trace_text.specs.Lines.{write_fields, retire_fields}
 use Rattle.trace_text.proofs.lines.put_fields.Goals as goal
 
 pub returns-in-Open-clause-puts : goal.returns-in-Open-clause-puts

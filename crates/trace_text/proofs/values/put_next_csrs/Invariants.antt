@@ -1,4 +1,4 @@
-use Rattle.std.proofs.Common.{◌+◌, ◌*◌, ◌-◌, ◌≤◌, drop, take}
+use Rattle.std.proofs.Common.{◌+◌, ◌*◌, ◌≤◌, drop, take}
 use Rattle.std.specs.List.{flat_map}
 use Rattle.tandem_base.specs.Puts.{Puts}
 use Rattle.trace_text.specs.Lines.{next_csr_text}

@@ -1,4 +1,4 @@
-use Rattle.std.proofs.Common.{◌≡◌, ◌+◌, ◌-◌, length, drop, arith}
+use Rattle.std.proofs.Common.{drop, arith}
 use Rattle.trace_text.proofs.Clean.{until_taken}
 use Rattle.trace_text.proofs.words.part_from.Goals as goal
 
