@@ -1,0 +1,11 @@
+pub mod ByteLaws
+pub mod Clean
+pub mod CsrLaws
+pub mod CsrSteps
+pub mod FieldLaws
+pub mod Found
+pub mod LineBack
+pub mod LineFound
+pub mod TextLaws
+pub mod ValueLaws
+pub mod WholeTexts
