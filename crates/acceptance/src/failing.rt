@@ -107,9 +107,8 @@ fn expect_front(rt: &impl Abort, alloc: Global, run: &Run, put: usize) -> Result
     let mut out = MemSink::new(alloc, 512, 1)?;
     out.fail_at((put as u64).saturating_add(1))?;
     let status = run_check(alloc, &words, &mut ins, &mut out);
-    let whole = put == run.line.len();
-    assert_eq!(rt; out.bytes(), &run.line.as_bytes()[..put]);
-    assert_eq!(rt; status, if whole { run.status } else { 6 });
+    let due = if put == run.line.len() { run.status } else { 6 };
+    assert_eq!(rt; (status, out.bytes()), (due, &run.line.as_bytes()[..put]));
     Ok(())
 }
 

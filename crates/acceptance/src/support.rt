@@ -148,7 +148,6 @@ pub fn expect_line(
     let words = words_of(alloc, words)?;
     let mut out = MemSink::new(alloc, 8192, 512)?;
     let answered = run_check(alloc, &words, ins, &mut out);
-    assert_eq!(rt; out.bytes(), line.as_bytes());
-    assert_eq!(rt; answered, status);
+    assert_eq!(rt; (answered, out.bytes()), (status, line.as_bytes()));
     Ok(())
 }
