@@ -11,4 +11,6 @@ mod large;
 #[cfg(test)]
 mod runs;
 #[cfg(test)]
+mod segments;
+#[cfg(test)]
 mod support;
