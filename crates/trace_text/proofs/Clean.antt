@@ -1,6 +1,7 @@
 -- Which bytes stand in words, and how a text is cut at a byte that it lacks.
 use Rattle.std.proofs.Common.{◌≡◌, ℕ, suc, zero, ◌+◌, ◌/◌, ◌%◌, ◌^◌, ◌<◌, ◌≤◌, Bool, true, false, List, [], ◌∷◌}
-use Rattle.std.proofs.Common.{◌++◌, length, drop, take, get_or, refl, sym, ap, ◌∙◌, arith, nat_le, nat_eq, if◌then◌else◌, ◌⊎◌, inl, inr}
+use Rattle.std.proofs.Common.{◌++◌, length, drop, take, get_or, refl, sym, ap, ◌∙◌, arith, nat_le, nat_eq}
+use Rattle.std.proofs.Common.{if◌then◌else◌, ◌⊎◌, inl, inr}
 use Rattle.std.proofs.Common.{append-nil}
 use Rattle.std.proofs.Math.ListN.{drop_of_length-le}
 use Rattle.std.proofs.Math.Seq.{take-append_seam}
@@ -56,7 +57,8 @@ clean_lacks stop (x ∷ xs) low p = ((λ same. omega (arith, p.0, same)), clean_
 pub until_whole : (stop : ℕ) (xs : List ℕ) → Lacks stop xs → until stop xs ≡ xs
 until_whole stop [] p = refl
 until_whole stop (x ∷ xs) p =
-    ap (λ (b : Bool). if b then [] else x ∷ until stop xs) (ne_eqb x stop p.0) ∙ ap (λ l. x ∷ l) (until_whole stop xs p.1)
+    ap (λ (b : Bool). if b then [] else x ∷ until stop xs) (ne_eqb x stop p.0)
+    ∙ ap (λ l. x ∷ l) (until_whole stop xs p.1)
 
 pub until_front : (stop : ℕ) (xs ys : List ℕ) → Lacks stop xs → until stop (xs ++ (stop ∷ ys)) ≡ xs
 until_front stop [] ys p = ap (λ (b : Bool). if b then [] else stop ∷ until stop ys) (nat_eq_same stop)
@@ -113,7 +115,8 @@ digits_lack_by base stop (d ∷ ds) low h =
 
 pub decimal_clean : (n : ℕ) → n < 2 ^ 64 → Clean (decimal n)
 decimal_clean n small =
-    digits_clean_by 10 (decimal n) (omega arith) (digits_is_IsNumeral 10 false (omega arith) (omega arith) n (omega arith)).0.1
+    digits_clean_by 10 (decimal n) (omega arith) (digits_is_IsNumeral 10 false (omega arith) (omega arith) n
+    (omega arith)).0.1
 
 pub hexadecimal_clean : (n : ℕ) → n < 2 ^ 64 → Clean (hexadecimal n)
 hexadecimal_clean n small = (
@@ -180,5 +183,6 @@ until_taken stop n text e =
 pub until_all : (stop : ℕ) (text : List ℕ) → length (until stop text) ≡ length text → until stop text ≡ text
 until_all stop text whole =
     sym (append-nil (until stop text))
-    ∙ ap (λ l. until stop text ++ l) (sym (drop_of_length-le text {i = length (until stop text)} (omega (arith, whole))))
+    ∙ ap (λ l. until stop text ++ l) (sym (drop_of_length-le text {i = length (until stop text)}
+    (omega (arith, whole))))
     ∙ until_and_rest stop text

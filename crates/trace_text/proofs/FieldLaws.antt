@@ -1,6 +1,7 @@
 -- A field is read from its spelling, and from nothing else.
 use Rattle.std.proofs.Common.{◌≡◌, ℕ, ◌+◌, ◌-◌, ◌<◌, ◌≤◌, Bool, true, false, nat_eq, if◌then◌else◌, inl, inr}
-use Rattle.std.proofs.Common.{List, [], ◌∷◌, ◌++◌, length, drop, drop-drop, length-append, length-drop, append-nil, append_assoc}
+use Rattle.std.proofs.Common.{List, [], ◌∷◌, ◌++◌, length, drop, drop-drop, length-append, length-drop, append-nil}
+use Rattle.std.proofs.Common.{append_assoc}
 use Rattle.std.proofs.Common.{Option, Some, None, Result, Ok, Err, refl, sym, ap, ◌∙◌, subst, arith}
 use Rattle.std.proofs.Math.Seq.{drop-append_seam}
 use Rattle.std.proofs.lemmas.Bool.{ne_eqb, eqb-true, eq-eqb, eqb-false}
@@ -107,7 +108,8 @@ pair_or value end (Ok pair) = pair
 pair_or value end (Err place) = (value, end)
 
 -- a field that was read
-pub record FieldFound {A : Type 0} (name : List ℕ) (read : List ℕ → Option A) (line : List ℕ) (at end : ℕ) (value : A) : Type 0 where
+pub record FieldFound {A : Type 0} (name : List ℕ) (read : List ℕ
+    → Option A) (line : List ℕ) (at end : ℕ) (value : A) : Type 0 where
   pub text : List ℕ
   pub reads : read text ≡ Some value
   pub spelled : Spelled line at end ((name ++ text) ∷ [])
@@ -130,7 +132,8 @@ pub field_found : {A : Type 0} (name : List ℕ) (read : List ℕ → Option A) 
     → FieldFound name read line at end value
 field_found name read line at end value low breaks e =
     let step = bind_ok (named_word name line at) (λ text. value_or (at + 1) (read text.0) text.1) (value, end) e in
-    value_told name read line step.0.0 at end step.0.1 value (named_found name line step.0.0 at step.0.1 low breaks step.1)
+    value_told name read line step.0.0 at end step.0.1 value
+    (named_found name line step.0.0 at step.0.1 low breaks step.1)
     (read step.0.0) refl step.2
 
 -- the line ends
@@ -150,12 +153,14 @@ pub record Follows (line : List ℕ) (at : ℕ) (fields : List (List ℕ)) : Typ
   pub bound : at ≤ length line
 
 -- a field that is read, with what follows
-pub record FieldReads {A : Type 0} (name : List ℕ) (read : List ℕ → Option A) (line : List ℕ) (at : ℕ) (value : A) (fields : List (List ℕ)) : Type 0 where
+pub record FieldReads {A : Type 0} (name : List ℕ) (read : List ℕ
+    → Option A) (line : List ℕ) (at : ℕ) (value : A) (fields : List (List ℕ)) : Type 0 where
   pub end : ℕ
   pub is : field name read line at ≡ Ok (value, end)
   pub follows : Follows line end fields
 
-pub first_word : (word : List ℕ) (fields : List (List ℕ)) → Lacks 32 word → until 32 (word ++ flat_map spaced fields) ≡ word
+pub first_word : (word : List ℕ) (fields : List (List ℕ)) → Lacks 32 word
+    → until 32 (word ++ flat_map spaced fields) ≡ word
 first_word word [] p = ap (until 32) (append-nil word) ∙ until_whole 32 word p
 first_word word (next ∷ fields) p = until_front 32 word (next ++ flat_map spaced fields) p
 
@@ -169,7 +174,8 @@ field_reads name read text line at value fields follows plain reads =
     let next : drop (at + 1) line ≡ (name ++ text) ++ flat_map spaced fields =
     sym (drop-drop 1 at line) ∙ ap (drop 1) follows.is in
     let word : word_from (at + 1) line ≡ name ++ text = ap (until 32) next ∙ first_word (name ++ text) fields plain in
-    let open_end : nat_eq at (length line) ≡ false = ne_eqb at (length line) (λ same. omega (arith, size, long, same)) in
+    let open_end : nat_eq at (length line) ≡ false = ne_eqb at (length line) (λ same. omega (arith, size, long, same))
+    in
     let there : drop (at + 1 + length (name ++ text)) line ≡ flat_map spaced fields =
     sym (drop-drop (length (name ++ text)) (at + 1) line) ∙ ap (drop (length (name ++ text))) next
     ∙ drop-append_seam (name ++ text) (flat_map spaced fields) in

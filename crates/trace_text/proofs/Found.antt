@@ -143,7 +143,8 @@ poke_found line at poke at_end e =
     let target = bind_ok (field (codes "reg=") target_in line at) _ poke e in
     let value = bind_ok (field (codes "value=") (poked_value_in target.0.0) line target.0.1) _ poke target.2 in
     let end = bind_ok (ended line value.0.1) _ poke value.2 in
-    let t = spelled_by (codes "reg=") target_in (λ x. target_text x) (λ x. TargetFits x) target_read line at target.0 at_end target.1 in
+    let t = spelled_by (codes "reg=") target_in (λ x. target_text x) (λ x. TargetFits x) target_read line at target.0
+    at_end target.1 in
     let v = spelled_by (codes "value=") (poked_value_in target.0.0) hexadecimal
     (λ n. FitsTarget target.0.0 n × (n ≤ most64))
     (λ text n r. let told = poked_value_read target.0.0 n text t.1 r in (told.0, (told.1, told.2))) line
@@ -219,9 +220,11 @@ outcome_found line at p at_end e =
     let rd = bind_ok (field (codes "rd=") rd_in line trap.0.1) _ p trap.2 in
     let csrs = bind_ok (field (codes "csrs=") csrs_in line rd.0.1) _ p rd.2 in
     let end = bind_ok (ended line csrs.0.1) _ p csrs.2 in
-    let t = spelled_by (codes "trap=") trap_in (λ x. trap_text x) (λ x. IfSome x (λ cause. cause ≤ 255)) trap_read line at trap.0
+    let t = spelled_by (codes "trap=") trap_in (λ x. trap_text x) (λ x. IfSome x (λ cause. cause ≤ 255)) trap_read line
+    at trap.0
     at_end trap.1 in
-    let r = spelled_by (codes "rd=") rd_in (λ x. rd_text x) (λ x. IfSome x RdFits) rd_read line trap.0.1 rd.0 (here t.0) rd.1 in
+    let r = spelled_by (codes "rd=") rd_in (λ x. rd_text x) (λ x. IfSome x RdFits) rd_read line trap.0.1 rd.0
+    (here t.0) rd.1 in
     let c = spelled_by (codes "csrs=") csrs_in (λ x. csrs_text x) (λ l. (length l ≤ 4) × All CsrFits l)
     (λ text l q. let told = csr_list_read text l q in (told.0, (told.1, told.2))) line rd.0.1 csrs.0 (here r.0)
     csrs.1 in

@@ -33,7 +33,8 @@ use Rattle.trace_text.specs.Values.{line_bytes_in, trap_in, rd_in, csrs_in}
 use Rattle.trace_text.specs.Words.{◌>>=◌, until, field}
 use Rattle.trace_text.specs.declared.kinds.Kind.{Kind}
 use Rattle.trace_text.specs.declared.kinds.Kind.TheVariants as kind
-use Rattle.trace_text.proofs.Clean.{Clean, clean_append, clean_by, clean_lacks, decimal_clean, hexadecimal_clean, bytes_clean}
+use Rattle.trace_text.proofs.Clean.{Clean, clean_append, clean_by, clean_lacks, decimal_clean, hexadecimal_clean}
+use Rattle.trace_text.proofs.Clean.{bytes_clean}
 use Rattle.trace_text.proofs.FieldLaws.{Follows, FieldReads, field_reads, ended_reads, first_word}
 use Rattle.trace_text.proofs.ValueLaws.{between_back, multiple_back, TargetFits, target_back, target_clean}
 use Rattle.trace_text.proofs.ValueLaws.{poked_value_back, trap_back, trap_clean, RdFits, rd_back, rd_clean, CsrFits}
@@ -67,7 +68,8 @@ hexadecimal_reads name most n line at fields p fits high follows =
     (hexadecimal_back most n fits high) follows
 
 -- what is read, and what follows it
-record Reads {A : Type 0} (read : List ℕ → ℕ → Result (A × ℕ) ℕ) (line : List ℕ) (at : ℕ) (value : A) (fields : List (List ℕ)) : Type 0 where
+record Reads {A : Type 0} (read : List ℕ → ℕ → Result (A
+    × ℕ) ℕ) (line : List ℕ) (at : ℕ) (value : A) (fields : List (List ℕ)) : Type 0 where
   end : ℕ
   is : read line at ≡ Ok (value, end)
   follows : Follows line end fields
@@ -80,11 +82,16 @@ unfolding timed_at
 timed_reads head line at fields hart tag time follows =
     let none_hart : 0 ≡ head.hart = sym hart in
     let none_tag : 0 ≡ head.tag = sym tag in
-    let t = decimal_reads (codes "time=") 0 most64 head.time line at fields (clean_by (codes "time=") refl) (omega arith)
+    let t = decimal_reads (codes "time=") 0 most64 head.time line at fields (clean_by (codes "time=") refl)
+    (omega arith)
     (omega arith) (omega arith) follows in
     record {
       end = t.end;
-      is = then_is _ (head.time, t.end) t.is (λ i. Ok ((record { hart = none_hart i; time = head.time; tag = none_tag i }), t.end));
+      is = then_is _ (head.time, t.end) t.is (λ i. Ok (
+        (record
+            { hart = none_hart i; time = head.time; tag = none_tag i }),
+        t.end,
+      ));
       follows = t.follows;
     }
 
@@ -119,7 +126,8 @@ tagged_reads head line at fields hart time tag follows =
     (omega arith) (omega arith) (omega arith) t.follows in
     record {
       end = g.end;
-      is = then_is _ (head.hart, h.end) h.is (then_is _ (head.time, t.end) t.is (then_is _ (head.tag, g.end) g.is refl));
+      is = then_is _ (head.hart, h.end) h.is (then_is _ (head.time, t.end) t.is
+          (then_is _ (head.tag, g.end) g.is refl));
       follows = g.follows;
     }
 
@@ -153,7 +161,8 @@ poke_reads : (poke : Poke) (line : List ℕ) (at : ℕ) → FitsTarget poke.targ
 unfolding poke_at
 poke_reads poke line at fits holds small follows =
     let fit = target_fits poke.target poke.value fits holds in
-    let t = reads (codes "reg=") target_in (target_text poke.target) line at poke.target _ (clean_by (codes "reg=") refl)
+    let t = reads (codes "reg=") target_in (target_text poke.target) line at poke.target _
+    (clean_by (codes "reg=") refl)
     (target_clean poke.target fit) (target_back poke.target fit) follows in
     let v = reads (codes "value=") (poked_value_in poke.target) (hexadecimal poke.value) line t.end poke.value []
     (clean_by (codes "value=") refl) (hexadecimal_clean poke.value small)
@@ -212,7 +221,8 @@ fetch_reads retire line at fields pc word next follows =
     (omega arith) (omega (arith, next)) w.follows in
     record {
       end = n.end;
-      is = then_is _ (retire.pc, p.end) p.is (then_is _ (retire.word, w.end) w.is (then_is _ (retire.next, n.end) n.is refl));
+      is = then_is _ (retire.pc, p.end) p.is (then_is _ (retire.word, w.end) w.is
+          (then_is _ (retire.next, n.end) n.is refl));
       follows = n.follows;
     }
 
@@ -234,13 +244,15 @@ unfolding retire_at outcome_at
 retire_reads retire line at fits holds follows =
     let f = fetch_reads retire line at _ holds.0 holds.1 holds.2 follows in
     let trapped = trap_fit retire.trap holds.3 in
-    let t = reads (codes "trap=") trap_in (trap_text retire.trap) line f.end retire.trap _ (clean_by (codes "trap=") refl)
+    let t = reads (codes "trap=") trap_in (trap_text retire.trap) line f.end retire.trap _
+    (clean_by (codes "trap=") refl)
     (trap_clean retire.trap trapped) (trap_back retire.trap trapped) f.follows in
     let written = rd_fit retire.rd fits.0 holds.4 in
     let r = reads (codes "rd=") rd_in (rd_text retire.rd) line t.end retire.rd _ (clean_by (codes "rd=") refl)
     (rd_clean retire.rd written) (rd_back retire.rd written) t.follows in
     let listed = csrs_fit retire.csrs holds.5 in
-    let c = reads (codes "csrs=") csrs_in (csrs_text retire.csrs) line r.end retire.csrs [] (clean_by (codes "csrs=") refl)
+    let c = reads (codes "csrs=") csrs_in (csrs_text retire.csrs) line r.end retire.csrs []
+    (clean_by (codes "csrs=") refl)
     (csrs_clean retire.csrs listed) (csr_list_back retire.csrs fits.1 listed) r.follows in
     then_is _ (retire.pc, retire.word, retire.next, f.end) f.is (then_is _ (retire.trap, retire.rd, retire.csrs)
     (then_is _ (retire.trap, t.end) t.is (then_is _ (retire.rd, r.end) r.is (then_is _ (retire.csrs, c.end) c.is
@@ -345,14 +357,17 @@ clean_field : (name text : List ℕ) → Clean name → Clean text → Clean (na
 clean_field name text p q = clean_append name text p q
 
 time_clean : (head : Head) → head.time < 2 ^ 64 → Clean (time_field head)
-time_clean head small = clean_field (codes "time=") (decimal head.time) (clean_by (codes "time=") refl) (decimal_clean head.time small)
+time_clean head small = clean_field (codes "time=") (decimal head.time) (clean_by (codes "time=") refl)
+    (decimal_clean head.time small)
 
 hart_clean : (head : Head) → head.hart < 2 ^ 8 → Clean (hart_field head)
 hart_clean head small =
-    clean_field (codes "hart=") (decimal head.hart) (clean_by (codes "hart=") refl) (decimal_clean head.hart (omega arith))
+    clean_field (codes "hart=") (decimal head.hart) (clean_by (codes "hart=") refl)
+    (decimal_clean head.hart (omega arith))
 
 tag_clean : (head : Head) → head.tag < 2 ^ 64 → Clean (tag_field head)
-tag_clean head small = clean_field (codes "tag=") (decimal head.tag) (clean_by (codes "tag=") refl) (decimal_clean head.tag small)
+tag_clean head small = clean_field (codes "tag=") (decimal head.tag) (clean_by (codes "tag=") refl)
+    (decimal_clean head.tag small)
 
 piece_clean : (piece : Piece) → PieceInRange piece → FieldsClean (piece_fields piece)
 piece_clean piece holds = (
@@ -457,5 +472,8 @@ fields_clean head (body.Bypass piece) fits holds =
     (hart_clean head holds.0, (time_clean head holds.1, (tag_clean head holds.2, piece_clean piece holds.3)))
 fields_clean head (body.Retire retire) fits holds =
     (hart_clean head holds.0, (time_clean head holds.1, (tag_clean head holds.2, retire_clean retire fits holds.3)))
-fields_clean head body.Squash fits holds = (hart_clean head holds.0, (time_clean head holds.1, (tag_clean head holds.2, tt)))
+fields_clean head body.Squash fits holds = (
+  hart_clean head holds.0,
+  (time_clean head holds.1, (tag_clean head holds.2, tt)),
+)
 fields_clean head body.End fits holds = (time_clean head holds.1, tt)

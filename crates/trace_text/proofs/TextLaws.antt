@@ -1,7 +1,8 @@
 -- How a text is read line by line.
 use Rattle.std.proofs.Common.{◌≡◌, ℕ, ◌+◌, ◌-◌, ◌<◌, ◌≤◌, Bool, true, false, nat_eq, nat_lt, if◌then◌else◌}
 use Rattle.std.proofs.Common.{List, [], ◌∷◌, ◌++◌, length, drop, drop-drop, length-drop, length-append, append_assoc}
-use Rattle.std.proofs.Common.{Option, Some, None, Result, Ok, Err, refl, sym, ap, ◌∙◌, subst, arith, inl, inr, drop_of_length-le}
+use Rattle.std.proofs.Common.{Option, Some, None, Result, Ok, Err, refl, sym, ap, ◌∙◌, subst, arith, inl, inr}
+use Rattle.std.proofs.Common.{drop_of_length-le}
 use Rattle.std.proofs.lemmas.Bool.{ne_eqb, eqb-true, eqb-false, ltb-true, ltb-false}
 use Rattle.msg_frames.specs.declared.message.Message.{Message}
 use Rattle.trace_text.specs.Reading.{line_read}
@@ -81,7 +82,9 @@ next_none text start number e = decide (nat_eq start (length text)) refl e
     answer : (r : Result Message ℕ)
         → line_answer (length text) start (start + length (until 10 (drop start text))) r ≡ Ok None
         → text_from number (drop start text) ≡ Ok []
-    answer (Ok message) h = some (nat_lt (start + length (until 10 (drop start text))) (length text)) message (answer_is (nat_lt (start + length (until 10 (drop start text))) (length text)) message (start + length (until 10 (drop start text))) start (Ok None) h)
+    answer (Ok message) h = some (nat_lt (start + length (until 10 (drop start text))) (length text)) message
+        (answer_is (nat_lt (start + length (until 10 (drop start text))) (length text)) message
+        (start + length (until 10 (drop start text))) start (Ok None) h)
     answer (Err place) h = cc
 
     decide : (b : Bool) → nat_eq start (length text) ≡ b
@@ -99,7 +102,8 @@ ended_parts text start short =
     told (drop (length (until 10 (drop start text))) (drop start text)) refl (breaks_at 10 (drop start text))
   where
     told : (rest : List ℕ) → drop (length (until 10 (drop start text))) (drop start text) ≡ rest → Breaks 10 rest
-        → drop start text ≡ until 10 (drop start text) ++ (10 ∷ drop (start + length (until 10 (drop start text)) + 1) text)
+        → drop start text ≡ until 10 (drop start text) ++ (10
+        ∷ drop (start + length (until 10 (drop start text)) + 1) text)
     told rest p (inl none) = absurd (omega (
       arith,
       short,
@@ -112,7 +116,8 @@ ended_parts text start short =
         sym (drop-drop (length (until 10 (drop start text))) start text) ∙ p ∙ some.1 in
         let behind : some.0 ≡ drop (start + length (until 10 (drop start text)) + 1) text =
         ap (drop 1) (sym there) ∙ drop-drop 1 (start + length (until 10 (drop start text))) text in
-        sym (until_and_rest 10 (drop start text)) ∙ ap (λ l. until 10 (drop start text) ++ l) (p ∙ some.1 ∙ ap (λ l. 10 ∷ l) behind)
+        sym (until_and_rest 10 (drop start text)) ∙ ap (λ l. until 10 (drop start text) ++ l) (p ∙ some.1
+        ∙ ap (λ l. 10 ∷ l) behind)
 
 -- where there is no newline the line is the rest of the text
 left_whole : (text : List ℕ) (start : ℕ) → (start + length (until 10 (drop start text)) < length text → ⊥)
@@ -143,12 +148,14 @@ next_some text start number line e = decide (nat_eq start (length text)) refl e
         ap (text_from number) (ended_parts text start short)
         ∙ text_ended number (until 10 (drop start text)) (drop (start + length (until 10 (drop start text)) + 1) text)
         (until_lacks 10 (drop start text))
-        ∙ ap (λ r. line_before number r (text_from (number + 1) (drop (start + length (until 10 (drop start text)) + 1) text))) p
+        ∙ ap (λ r. line_before number r (text_from (number + 1)
+        (drop (start + length (until 10 (drop start text)) + 1) text))) p
 
     by_end : (b : Bool) (message : Message) → line_read (until 10 (drop start text)) ≡ Ok message
         → nat_lt (start + length (until 10 (drop start text))) (length text) ≡ b
         → answer_by b message (start + length (until 10 (drop start text))) start ≡ Ok (Some line)
-        → text_from number (drop start text) ≡ message_before line.message (text_from (number + 1) (drop line.next text))
+        → text_from number (drop start text) ≡ message_before line.message
+        (text_from (number + 1) (drop line.next text))
     by_end true message p q h =
         subst (λ (l : TextLine). text_from number (drop start text)
         ≡ message_before l.message (text_from (number + 1) (drop l.next text))) (line_is message h)
@@ -160,14 +167,16 @@ next_some text start number line e = decide (nat_eq start (length text)) refl e
         value_of (Err place) = line
 
         line_is : (m : Message) → ◌≡◌ {A = Result (Option TextLine) ℕ}
-            (Ok (Some (record { message = m; next = start + length (until 10 (drop start text)) + 1 }))) (Ok (Some line))
+            (Ok (Some (record { message = m; next = start + length (until 10 (drop start text)) + 1 })))
+            (Ok (Some line))
             → record { message = m; next = start + length (until 10 (drop start text)) + 1 } ≡ line
         line_is m same = ap value_of same
     by_end false message p q h = cc
 
     answer : (r : Result Message ℕ) → line_read (until 10 (drop start text)) ≡ r
         → line_answer (length text) start (start + length (until 10 (drop start text))) r ≡ Ok (Some line)
-        → text_from number (drop start text) ≡ message_before line.message (text_from (number + 1) (drop line.next text))
+        → text_from number (drop start text) ≡ message_before line.message
+        (text_from (number + 1) (drop line.next text))
     answer (Ok message) p h =
         by_end (nat_lt (start + length (until 10 (drop start text))) (length text)) message p refl
         (answer_is (nat_lt (start + length (until 10 (drop start text))) (length text)) message
@@ -177,7 +186,8 @@ next_some text start number line e = decide (nat_eq start (length text)) refl e
     decide : (b : Bool) → nat_eq start (length text) ≡ b
         → (if b then Ok None else line_answer (length text) start (start + length (until 10 (drop start text)))
         (line_read (until 10 (drop start text)))) ≡ Ok (Some line)
-        → text_from number (drop start text) ≡ message_before line.message (text_from (number + 1) (drop line.next text))
+        → text_from number (drop start text) ≡ message_before line.message
+        (text_from (number + 1) (drop line.next text))
     decide true p h = cc
     decide false p h = answer (line_read (until 10 (drop start text))) refl h
 
@@ -201,7 +211,8 @@ next_err text start number column low e = decide (nat_eq start (length text)) re
         ap (text_from number) (ended_parts text start short)
         ∙ text_ended number (until 10 (drop start text)) (drop (start + length (until 10 (drop start text)) + 1) text)
         (until_lacks 10 (drop start text))
-        ∙ ap (λ r. line_before number r (text_from (number + 1) (drop (start + length (until 10 (drop start text)) + 1) text))) p
+        ∙ ap (λ r. line_before number r (text_from (number + 1)
+        (drop (start + length (until 10 (drop start text)) + 1) text))) p
         ∙ ap (λ n. Err (fault.Form number n)) same
 
     last_line : (r : Result Message ℕ) → line_read (until 10 (drop start text)) ≡ r
@@ -212,7 +223,8 @@ next_err text start number column low e = decide (nat_eq start (length text)) re
         let some : nat_eq (length (drop start text)) 0 ≡ false =
         ne_eqb _ 0 (λ none. open_end (omega (arith, low, none, length-drop start text))) in
         text_left number (drop start text) (subst (Lacks 10) whole (until_lacks 10 (drop start text)))
-        ∙ ap (λ (b : Bool). if b then Ok [] else Err (left_fault number (drop start text) (line_read (drop start text)))) some
+        ∙ ap (λ (b : Bool). if b then Ok [] else Err (left_fault number (drop start text)
+        (line_read (drop start text)))) some
         ∙ ap (λ q. Err (left_fault number (drop start text) q)) (ap line_read (sym whole) ∙ p)
 
     wrong : (b : Bool) (place : ℕ) → nat_lt (start + length (until 10 (drop start text))) (length text) ≡ b
@@ -227,7 +239,8 @@ next_err text start number column low e = decide (nat_eq start (length text)) re
 
     by_end : (b : Bool) (message : Message) → line_read (until 10 (drop start text)) ≡ Ok message
         → nat_lt (start + length (until 10 (drop start text))) (length text) ≡ b
-        → answer_by b message (start + length (until 10 (drop start text))) start ≡ Err column → (start ≡ length text → ⊥)
+        → answer_by b message (start + length (until 10 (drop start text))) start ≡ Err column
+        → (start ≡ length text → ⊥)
         → text_from number (drop start text) ≡ Err (fault.Form number column)
     by_end true message p q h open_end = cc
     by_end false message p q h open_end =
@@ -245,7 +258,8 @@ next_err text start number column low e = decide (nat_eq start (length text)) re
         (answer_is (nat_lt (start + length (until 10 (drop start text))) (length text)) message
         (start + length (until 10 (drop start text))) start (Err column) h) open_end
     answer (Err place) p open_end h =
-        wrong (nat_lt (start + length (until 10 (drop start text))) (length text)) place refl p (err_is (place + 1) column h)
+        wrong (nat_lt (start + length (until 10 (drop start text))) (length text)) place refl p
+        (err_is (place + 1) column h)
         open_end
 
     decide : (b : Bool) → nat_eq start (length text) ≡ b

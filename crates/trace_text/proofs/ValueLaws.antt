@@ -1,6 +1,7 @@
 -- Each value is read from its spelling, and from nothing else.
 use Rattle.std.proofs.Common.{◌≡◌, ℕ, zero, suc, ◌/◌, ◌%◌, ◌^◌, ◌<◌, ◌≤◌, Bool, true, false, ◌&&◌, nat_eq, nat_le}
-use Rattle.std.proofs.Common.{◌==◌, if◌then◌else◌, List, [], ◌∷◌, ◌++◌, length, drop, codes, refl, sym, ap, ◌∙◌, subst, arith}
+use Rattle.std.proofs.Common.{◌==◌, if◌then◌else◌, List, [], ◌∷◌, ◌++◌, length, drop, codes, refl, sym, ap, ◌∙◌}
+use Rattle.std.proofs.Common.{subst, arith}
 use Rattle.std.proofs.Common.{Option, Some, None, IfSome, Result, Ok, Err, IsTrue}
 use Rattle.std.specs.Prelude.{All}
 use Rattle.std.proofs.Common.{append-nil, append_assoc, length-append, drop-drop, get_or, zero-add, inl, inr}
@@ -12,7 +13,8 @@ use Rattle.std.specs.Fmt.{decimal}
 use Rattle.std.specs.Int.{bit_at}
 use Rattle.std.specs.List.{starts_with}
 use Rattle.std.specs.Option.{option_map}
-use Rattle.hex.proofs.HexLemmas.{length-encode_with, decode_sized-ok, decode_sized-twice, decode_of-ok, decode_of-encode_lower}
+use Rattle.hex.proofs.HexLemmas.{length-encode_with, decode_sized-ok, decode_sized-twice, decode_of-ok}
+use Rattle.hex.proofs.HexLemmas.{decode_of-encode_lower}
 use Rattle.hex.specs.Hex.{encode_lower, lower_digits, decode_sized, IsBytes}
 use Rattle.hex.specs.declared.error.FromHexError.{FromHexError}
 use Rattle.msg_frames.proofs.Again.{unmasked_from}
@@ -34,8 +36,10 @@ use Rattle.trace_text.specs.Values.{target_in, poked_value_in, trap_in, rd_of, r
 use Rattle.trace_text.specs.Values.{csr_of, csr_in, csr_before, some_csrs_in, csrs_in}
 use Rattle.trace_text.specs.Values.{if_written, bytes_in, piece_bytes_in, nothing, is_masked, if_masked, line_bytes_in}
 use Rattle.trace_text.specs.Words.{until, behind}
-use Rattle.trace_text.proofs.Clean.{Clean, Lacks, Breaks, clean_append, lacks_append, clean_by, decimal_clean, hexadecimal_clean}
-use Rattle.trace_text.proofs.Clean.{decimal_lacks, hexadecimal_lacks, until_front, until_whole, until_all, behind_front, breaks_at, until_and_rest}
+use Rattle.trace_text.proofs.Clean.{Clean, Lacks, Breaks, clean_append, lacks_append, clean_by, decimal_clean}
+use Rattle.trace_text.proofs.Clean.{hexadecimal_clean}
+use Rattle.trace_text.proofs.Clean.{decimal_lacks, hexadecimal_lacks, until_front, until_whole, until_all}
+use Rattle.trace_text.proofs.Clean.{behind_front, breaks_at, until_and_rest}
 
 -- ---- numbers
 
@@ -73,8 +77,12 @@ multiple_read unit n text e = told (hexadecimal_in most64 text) refl e
     told None p h = cc
     told (Some m) p h =
         let both = cond_some (m % unit == 0) m n h in
-        let found = hexadecimal_found most64 text (Some m) (sym p) in
-        (found.0 ∙ ap hexadecimal both.1, ap (λ k. k % unit) (sym both.1) ∙ eqb-true (m % unit) 0 both.0, omega (arith, found.1, both.1))
+        let found = hexadecimal_found most64 text (Some m) (sym p) in (
+          found.0 ∙ ap hexadecimal both.1,
+          ap (λ k. k % unit) (sym both.1)
+              ∙ eqb-true (m % unit) 0 both.0,
+          omega (arith, found.1, both.1),
+        )
 
 pub multiple_back : (unit n : ℕ) → n < 2 ^ 64 → n % unit ≡ 0 → multiple unit (hexadecimal n) ≡ Some n
 multiple_back unit n small whole =
@@ -110,7 +118,8 @@ target_read text target e = first (is_text text (codes "pc")) refl e
         (starts (codes "x") text x ∙ ap (λ l. 120 ∷ l) found.0, (found.1, found.2))
 
     second : (b : Bool) → starts_with nat_eq text (codes "x") ≡ b
-        → (if b then option_map (λ number. X number) (between 1 31 (drop 1 text)) else poked (hexadecimal_in most16 text))
+        → (if b then option_map (λ number. X number) (between 1 31 (drop 1 text)) else poked
+        (hexadecimal_in most16 text))
         ≡ Some target → (text ≡ target_text target) × TargetFits target
     second true p h = register (between 1 31 (drop 1 text)) refl p h
     second false p h = poked_told text (hexadecimal_in most16 text) target refl h
@@ -135,7 +144,8 @@ pub poked_value_read : (target : Target) (value : ℕ) (text : List ℕ) → Tar
     → poked_value_in target text ≡ Some value
     → (text ≡ hexadecimal value) × FitsTarget target value × (value ≤ most64)
 poked_value_read Pc value text fits e = let found = multiple_read 4 value text e in (found.0, found.1, found.2)
-poked_value_read (X number) value text fits e = let found = hexadecimal_read most64 value text e in (found.0, fits, found.1)
+poked_value_read (X number) value text fits e = let found = hexadecimal_read most64 value text e in
+    (found.0, fits, found.1)
 poked_value_read (Csr number) value text fits e =
     let found = hexadecimal_read most64 value text e in (found.0, fits.0, found.1)
 
@@ -154,7 +164,8 @@ target_clean (Csr number) fits = hexadecimal_clean number (omega (arith, fits.1)
 
 -- a number is no dash
 no_dash : (n : ℕ) → n < 2 ^ 64 → is_text (decimal n) (codes "-") ≡ false
-no_dash n small = unlike (decimal n) (codes "-") (λ same. (subst (Lacks 45) same (decimal_lacks 45 n small refl)).0 refl)
+no_dash n small = unlike (decimal n) (codes "-") (λ same. (subst (Lacks 45) same (decimal_lacks 45 n small refl)).0
+    refl)
 
 pub trap_read : (text : List ℕ) (trap : Option ℕ) → trap_in text ≡ Some trap
     → (text ≡ trap_text trap) × IfSome trap (λ cause. cause ≤ 255)
@@ -282,7 +293,8 @@ rd_read text rd e = first (is_text text (codes "-")) refl e
 pub rd_back : (rd : Option RdValue) → IfSome rd RdFits → rd_in (rd_text rd) ≡ Some rd
 rd_back None fits = refl
 rd_back (Some rd) fits =
-    ap (λ l. option_map (λ r. Some r) (register_in l)) (append_assoc (decimal rd.number) (codes ":") (hexadecimal rd.value))
+    ap (λ l. option_map (λ r. Some r) (register_in l)) (append_assoc (decimal rd.number) (codes ":")
+    (hexadecimal rd.value))
     ∙ ap (option_map (λ r. Some r)) (register_back rd fits)
 
 pub rd_clean : (rd : Option RdValue) → IfSome rd RdFits → Clean (rd_text rd)
@@ -337,7 +349,8 @@ csr_clean csr fits =
 -- a CSR's text has no comma
 csr_lacks : (csr : CsrValue) → CsrFits csr → Lacks 44 (csr_text csr)
 csr_lacks csr fits =
-    lacks_append 44 (hexadecimal csr.number ++ codes ":") (hexadecimal csr.value) (lacks_append 44 (hexadecimal csr.number)
+    lacks_append 44 (hexadecimal csr.number ++ codes ":") (hexadecimal csr.value)
+    (lacks_append 44 (hexadecimal csr.number)
     (codes ":") (hexadecimal_lacks 44 csr.number (omega (arith, fits.0)) refl) ((λ same. omega (arith, same)), tt))
     (hexadecimal_lacks 44 csr.value (omega (arith, fits.1)) refl)
 

@@ -1,6 +1,6 @@
 //! The values that texts spell.
 
-ghost use Rattle.std.specs.Prelude.{◌≡◌, ◌<◌, ◌≤◌, ◌↔◌, ◌++◌, ◌+◌, ◌*◌, false, true, length, IsTrue, IfSome, MatchOption};
+ghost use Rattle.std.specs.Prelude.{◌≡◌, ◌<◌, ◌≤◌, ◌*◌, false, true, length, IfSome, MatchOption};
 ghost use Rattle.hex.specs.Hex.{encode_lower};
 ghost use Rattle.msg_frames.specs.Frames.{is_poked_csr};
 ghost use Rattle.msg_frames.specs.Reading.{is_stray};

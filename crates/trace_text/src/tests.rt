@@ -10,11 +10,13 @@ poke hart=0 time=0 reg=x31 value=0xffffffffffffffff
 poke hart=0 time=0 reg=0x300 value=0x0
 read hart=0 time=1 tag=18446744073709551615 addr=0x5 bytes=00
 insert hart=0 time=1 tag=0 addr=0xffffffffffffffff bytes=0123456789abcdef
-write hart=255 time=2 line=0x40 mask=0x8000000000000001 bytes=0a00000000000000000000000000000000000000000000000000000000000000\
+write hart=255 time=2 line=0x40 mask=0x8000000000000001 bytes=\
+0a00000000000000000000000000000000000000000000000000000000000000\
 000000000000000000000000000000000000000000000000000000000000000b
 bypass hart=0 time=3 tag=7 addr=0x0 bytes=ff
 retire hart=0 time=1 tag=1 pc=0x80000000 word=0x500093 next=0x80000004 trap=- rd=x1:0x5 csrs=-
-retire hart=0 time=1 tag=2 pc=0x0 word=0x0 next=0x0 trap=255 rd=- csrs=0x300:0x1800,0x341:0x80000000,0x342:0x7,0xffff:0x1
+retire hart=0 time=1 tag=2 pc=0x0 word=0x0 next=0x0 trap=255 rd=- \
+csrs=0x300:0x1800,0x341:0x80000000,0x342:0x7,0xffff:0x1
 squash hart=0 time=1 tag=1
 end time=18446744073709551615
 ";

@@ -4,4 +4,8 @@ use Rattle.trace_text.proofs.fields.put_open.Goals as goal
 -- each part stands behind the one before
 pub returns-clause-puts : goal.returns-clause-puts
 returns-clause-puts c =
-    puts_then c.put-end.ensures (puts_then c.put_decimal-end.ensures.puts (puts_then c.put-end-2.ensures (puts_then c.put_decimal-end-2.ensures.puts (puts_then c.put-end-3.ensures (puts_then c.put_decimal-end-3.ensures.puts (puts_then c.put-end-4.ensures (puts_then c.put_decimal-end-4.ensures.puts (puts_then c.put-end-5.ensures (puts_then c.put_decimal.ensures.puts ((puts_none _ _)))))))))))
+    puts_then c.put-end.ensures (puts_then c.put_decimal-end.ensures.puts
+    (puts_then c.put-end-2.ensures (puts_then c.put_decimal-end-2.ensures.puts
+    (puts_then c.put-end-3.ensures (puts_then c.put_decimal-end-3.ensures.puts
+    (puts_then c.put-end-4.ensures (puts_then c.put_decimal-end-4.ensures.puts
+    (puts_then c.put-end-5.ensures (puts_then c.put_decimal.ensures.puts ((puts_none _ _)))))))))))

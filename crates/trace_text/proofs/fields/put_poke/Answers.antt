@@ -4,4 +4,5 @@ use Rattle.trace_text.proofs.fields.put_poke.Goals as goal
 -- each part stands behind the one before
 pub returns-clause-puts : goal.returns-clause-puts
 returns-clause-puts c =
-    puts_then c.put-end.ensures (puts_then c.put_target-end.ensures.puts (puts_then c.put-end-2.ensures (puts_then c.put_hexadecimal.ensures.puts ((puts_none _ _)))))
+    puts_then c.put-end.ensures (puts_then c.put_target-end.ensures.puts
+    (puts_then c.put-end-2.ensures (puts_then c.put_hexadecimal.ensures.puts ((puts_none _ _)))))

@@ -8,4 +8,5 @@ pub returns-clause-puts : goal.returns-clause-puts
 returns-clause-puts c =
     let head = c.args.head.now in
     puts_as (puts_then c.put_tagged-end.ensures.puts c.put_piece.ensures.puts)
-    (sym (flat_map-append spaced (hart_field head ∷ time_field head ∷ tag_field head ∷ []) (piece_fields c.args.piece.now)))
+    (sym (flat_map-append spaced (hart_field head ∷ time_field head ∷ tag_field head
+    ∷ []) (piece_fields c.args.piece.now)))

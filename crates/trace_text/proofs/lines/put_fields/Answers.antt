@@ -13,14 +13,17 @@ returns-in-Open-clause-puts c =
 pub returns-in-Poke-clause-puts : goal.returns-in-Poke-clause-puts
 returns-in-Poke-clause-puts c =
     puts_as (puts_then c.put_timed-end.ensures.puts c.put_poke.ensures.puts)
-    (sym (flat_map-append spaced (hart_field c.args.head.now ∷ time_field c.args.head.now ∷ []) (poke_fields _)) ∙ rw c.in-Poke.is refl)
+    (sym (flat_map-append spaced (hart_field c.args.head.now ∷ time_field c.args.head.now ∷ []) (poke_fields _))
+    ∙ rw c.in-Poke.is refl)
 
 pub returns-in-Write-clause-puts : goal.returns-in-Write-clause-puts
 returns-in-Write-clause-puts c =
     puts_as (puts_then c.put_timed-end-in-Write.ensures.puts c.put_write.ensures.puts)
-    (sym (flat_map-append spaced (hart_field c.args.head.now ∷ time_field c.args.head.now ∷ []) (write_fields _)) ∙ rw c.in-Write.is refl)
+    (sym (flat_map-append spaced (hart_field c.args.head.now ∷ time_field c.args.head.now ∷ []) (write_fields _))
+    ∙ rw c.in-Write.is refl)
 
 pub returns-in-Retire-clause-puts : goal.returns-in-Retire-clause-puts
 returns-in-Retire-clause-puts c =
     puts_as (puts_then c.put_tagged-end.ensures.puts c.put_retire.ensures.puts)
-    (sym (flat_map-append spaced (hart_field c.args.head.now ∷ time_field c.args.head.now ∷ tag_field c.args.head.now ∷ []) (retire_fields _)) ∙ rw c.in-Retire.is refl)
+    (sym (flat_map-append spaced (hart_field c.args.head.now ∷ time_field c.args.head.now ∷ tag_field c.args.head.now
+    ∷ []) (retire_fields _)) ∙ rw c.in-Retire.is refl)
