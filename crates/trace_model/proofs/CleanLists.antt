@@ -44,11 +44,11 @@ module _ (image : Loaded) (before : List Message) (head : Head) where
   new b = trace_of image (record { head = head; body = b } ∷ before)
 
   grows : (b : Body) → IsClean image (record { head = head; body = b } ∷ before) → 0 < length before
-      → growths.Grows image before head b old (new b)
+      → growths.MessageGrows image before head b old (new b)
   grows b c l = let s = suited image (record { head = head; body = b } ∷ before) c in at b c s.0 s.1 s.2
     where
       at : (b : Body) → IsClean image (record { head = head; body = b } ∷ before) → Suited image before
-          → last_time before ≤ head.time → SuitsBody image before head b → growths.Grows image before head b old (new b)
+          → last_time before ≤ head.time → SuitsBody image before head b → growths.MessageGrows image before head b old (new b)
       at (body.Open info) c s time t = absurd (no_open image before head info c l)
       at (body.Poke poke) c s time t = still image before s head time
       at (body.Read piece) c s time t = still image before s head time
@@ -71,7 +71,7 @@ module _ (image : Loaded) (before : List Message) (head : Head) where
   of_retire t t' g None s = grow_same s
   of_retire t t' g (Some e) s = grow_insn _ _ s
 
-  growth_of : (b : Body) (t t' : Trace) → growths.Grows image before head b t t' → Growth t t'
+  growth_of : (b : Body) (t t' : Trace) → growths.MessageGrows image before head b t t' → Growth t t'
   growth_of (body.Open info) t t' g = absurd g
   growth_of (body.Poke poke) t t' g = grow_same g
   growth_of (body.Read piece) t t' g = grow_same g

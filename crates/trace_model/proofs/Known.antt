@@ -157,6 +157,6 @@ pub owned : (image : Loaded) (before : List Message) → Suited image before →
 owned image [] c h t x = inl refl
 owned image (m ∷ before) c h t x = elim
     (owned_now image before m.head h t x (owned image before c.0 h t x) m.body c.2) [
-  | inl e ↦ inl e
-  | inr s ↦ inr (has_more (entries image before) (entry_in image before m.head m.body) h t s)
-]
+      | inl e ↦ inl e
+      | inr s ↦ inr (has_more (entries image before) (entry_in image before m.head m.body) h t s)
+    ]

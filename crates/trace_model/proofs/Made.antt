@@ -148,9 +148,9 @@ pub each_entry : (image : Loaded) (before : List Message) → Suited image befor
 each_entry image [] s e i = absurd i
 each_entry image (m ∷ before) s e i = elim
     (with_cases (entry_in image before m.head m.body) (entries image before) e i) [
-  | inl j ↦ each_entry image before s.0 e j
-  | inr q ↦ at m.body s.2 q
-]
+      | inl j ↦ each_entry image before s.0 e j
+      | inr q ↦ at m.body s.2 q
+    ]
   where
     at : (b : Body) → SuitsBody image before m.head b → entry_in image before m.head b ≡ Some e → IsEntry e
     at (body.Retire retire) s q = made_entry (live before m.head.hart) (early before)

@@ -66,9 +66,9 @@ pub up_to_last : (image : Loaded) (before : List Message) → Suited image befor
 up_to_last image [] s e i = absurd i
 up_to_last image (m ∷ before) s e i = elim
     (with_cases (entry_in image before m.head m.body) (entries image before) e i) [
-  | inl j ↦ up_on image before m s.2 e.insn.hart e.insn.tag (up_to_last image before s.0 e j)
-  | inr q ↦ up_new image before m s.2 e q
-]
+      | inl j ↦ up_on image before m s.2 e.insn.hart e.insn.tag (up_to_last image before s.0 e j)
+      | inr q ↦ up_new image before m s.2 e q
+    ]
 
 pub from_insn : (es : List Entry) (w : Retired) → In w (insns_of es) → (e : Entry) × In e es × (w ≡ e.insn)
 from_insn [] w i = absurd i

@@ -37,25 +37,25 @@ BypassGrows before head piece t t' false =
     × IsPartFor head.hart head.tag (own_place head.time (number_after before)) piece o
 
 -- what one more message does to the trace t, which is t' with it
-abbrev pub Grows : Loaded → List Message → Head → Body → Trace → Trace → Type 0
-Grows image before head (body.Open info) t t' = ⊥
-Grows image before head (body.Poke poke) t t' = Same t t'
-Grows image before head (body.Read piece) t t' = Same t t'
-Grows image before head (body.Insert piece) t t' = Same t t'
+abbrev pub MessageGrows : Loaded → List Message → Head → Body → Trace → Trace → Type 0
+MessageGrows image before head (body.Open info) t t' = ⊥
+MessageGrows image before head (body.Poke poke) t t' = Same t t'
+MessageGrows image before head (body.Read piece) t t' = Same t t'
+MessageGrows image before head (body.Insert piece) t t' = Same t t'
 -- a Write performs the Inserts that wait in its line, in their order
-Grows image before head (body.Write write) t t' =
+MessageGrows image before head (body.Write write) t t' =
     (parts : List Op) × Performs head.hart t parts t'
     × ArePartsFor head.hart head.time (number_after before) (waiting before head.hart write.line) parts
-Grows image before head (body.Bypass piece) t t' = BypassGrows before head piece t t' (is_early before head)
-Grows image before head (body.Retire retire) t t' =
+MessageGrows image before head (body.Bypass piece) t t' = BypassGrows before head piece t t' (is_early before head)
+MessageGrows image before head (body.Retire retire) t t' =
     GrownBy t t' (places before) (entry_in image before head (body.Retire retire))
-Grows image before head body.Squash t t' = Same t t'
-Grows image before head body.End t t' = Same t t'
+MessageGrows image before head body.Squash t t' = Same t t'
+MessageGrows image before head body.End t t' = Same t t'
 
 -- from the second message of a clean list on, each makes the trace grow so
 abbrev pub EachMessageGrows : Type 0
 EachMessageGrows = (image : Loaded) (before : List Message) (m : Message) → IsClean image (m ∷ before)
-    → 0 < length before → Grows image before m.head m.body (trace_of image before) (trace_of image (m ∷ before))
+    → 0 < length before → MessageGrows image before m.head m.body (trace_of image before) (trace_of image (m ∷ before))
 
 -- so it is one growth
 abbrev pub EachMessageIsGrowth : Type 0

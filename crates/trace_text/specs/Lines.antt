@@ -52,12 +52,15 @@ csrs_text (csr ∷ csrs) = csr_text csr ++ flat_map next_csr_text csrs
 
 -- ---- the fields, in their order
 
+-- the hart, in decimal
 abbrev pub hart_field : Head → List ℕ
 hart_field head = codes "hart=" ++ decimal head.hart
 
+-- the time, in decimal
 abbrev pub time_field : Head → List ℕ
 time_field head = codes "time=" ++ decimal head.time
 
+-- the tag, in decimal
 abbrev pub tag_field : Head → List ℕ
 tag_field head = codes "tag=" ++ decimal head.tag
 

@@ -17,13 +17,15 @@ use Rattle.msg_frames.specs.Reading.{unmasked_zeros}
 use Rattle.numerals.specs.Numerals.{decimal_in, hexadecimal_in}
 use Rattle.trace_text.specs.Words.{until, behind}
 
--- the largest number of 16, of 32 and of 64 bits
+-- the largest number of 16 bits
 abbrev pub most16 : ℕ
 most16 = 2 ^ 16 - 1
 
+-- that of 32 bits
 abbrev pub most32 : ℕ
 most32 = 2 ^ 32 - 1
 
+-- that of 64 bits
 abbrev pub most64 : ℕ
 most64 = 2 ^ 64 - 1
 
