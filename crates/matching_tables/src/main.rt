@@ -11,7 +11,10 @@ use std::alloc::{AllocError, Global};
 use std::io;
 use verdict_report::{Fault, Report, Verdict, line};
 
-const RAM: [Ram; 1] = [Ram { base: 0x8000_1000, size: 0x1000 }];
+const RAM: [Ram; 1] = [Ram {
+    base: 0x8000_1000,
+    size: 0x1000,
+}];
 
 /// How many bytes a frame takes, by its first two; two where there are none.
 fn frame_size(stream: &[u8], at: usize) -> usize {
@@ -53,7 +56,12 @@ fn first_fault(alloc: Global, image: &Image, stream: &[u8]) -> Result<Option<Ver
 }
 
 /// Puts the line of the first fault in a stream over an image, and answers its length.
-fn tell(alloc: Global, bytes: &[u8], stream: &[u8], out: &mut [u8; 256]) -> Result<usize, AllocError> {
+fn tell(
+    alloc: Global,
+    bytes: &[u8],
+    stream: &[u8],
+    out: &mut [u8; 256],
+) -> Result<usize, AllocError> {
     let Ok(image) = Image::flat(alloc, bytes, 0x8000_0000, &RAM) else {
         return Ok(0);
     };

@@ -48,7 +48,8 @@ module _ (image : Loaded) (before : List Message) (head : Head) where
   grows b c l = let s = suited image (record { head = head; body = b } ∷ before) c in at b c s.0 s.1 s.2
     where
       at : (b : Body) → IsClean image (record { head = head; body = b } ∷ before) → Suited image before
-          → last_time before ≤ head.time → SuitsBody image before head b → growths.MessageGrows image before head b old (new b)
+          → last_time before ≤ head.time → SuitsBody image before head b
+          → growths.MessageGrows image before head b old (new b)
       at (body.Open info) c s time t = absurd (no_open image before head info c l)
       at (body.Poke poke) c s time t = still image before s head time
       at (body.Read piece) c s time t = still image before s head time
