@@ -1,11 +1,8 @@
 //! Reads and writes that fail.
 
-ghost use Rattle.std.specs.Prelude.{◌≤◌, length};
+ghost use Rattle.std.specs.Prelude.{◌≤◌};
 
-use super::support::{
-    ADDED, END, OPEN, Part, Run, add_image, bytes_of, expect_line, expect_with_fault, inputs_of,
-    words_of,
-};
+use super::support::{Run, expect_line, inputs_of, words_of};
 use std::alloc::Global;
 use std::process::Abort;
 use std::test::Fail;
@@ -14,8 +11,10 @@ use tandem_io::{MemInputs, MemSink, Slot};
 
 // One ADDI and its retirement.
 const ADDI: Run = Run {
-    image: &[Part::Hex("93005000")],
-    stream: &[OPEN, ADDED, END],
+    image: "93005000",
+    stream: "1a000100000000000000000000000000000000000101000000000000\
+             32000700010000000000000001000000000000000000008000000000930050000400008000000000020001000500000000000000\
+             1200090002000000000000000000000000000000",
     words: "check i s --flat 0x80000000",
     line: "ACCEPT messages=3 retired=1 operations=0\n",
     status: 0,
@@ -27,10 +26,8 @@ const LINES: &[Run] = &[
     Run {
         line: "REJECT message=2 offset=28 fault=24 Rd hart=0 tag=1 want=x1:0x5 got=x1:0x6\n",
         status: 1,
-        stream: &[
-            OPEN,
-            "32000700010000000000000001000000000000000000008000000000930050000400008000000000020001000600000000000000",
-        ],
+        stream: "1a000100000000000000000000000000000000000101000000000000\
+                 32000700010000000000000001000000000000000000008000000000930050000400008000000000020001000600000000000000",
         ..ADDI
     },
     Run {
@@ -61,12 +58,10 @@ const LINES: &[Run] = &[
 
 #[test]
 fn a_read_of_the_stream_that_fails_is_told(rt: HostRuntime) -> Result<(), Fail> {
-    let failed = Run {
-        line: "INPUT failed s\n",
-        status: 3,
-        ..ADDI
-    };
-    expect_with_fault(&rt, rt.alloc(), &failed, 4096, Slot::Stream, 4)
+    let alloc = rt.alloc();
+    let mut ins = inputs_of(alloc, &ADDI, 4096)?;
+    ins.fail_at(Slot::Stream, 4)?;
+    expect_line(&rt, alloc, ADDI.words, &mut ins, "INPUT failed s\n", 3)
 }
 
 /// Has each call on a slot fail in turn, of the first `calls`, and one that isn't made. A read
@@ -76,46 +71,38 @@ fn fail_each(
     alloc: Global,
     slot: Slot,
     calls: u64,
-    line: &'static str,
+    line: &str,
 ) -> Result<(), Fail> {
-    let failed = Run {
-        line,
-        status: 3,
-        ..ADDI
-    };
     for call in 1..=calls {
-        expect_with_fault(rt, alloc, &failed, 1, slot, call)?;
+        let mut ins = inputs_of(alloc, &ADDI, 1)?;
+        ins.fail_at(slot, call)?;
+        expect_line(rt, alloc, ADDI.words, &mut ins, line, 3)?;
     }
-    expect_with_fault(rt, alloc, &ADDI, 1, slot, calls.saturating_add(1))
+    let mut ins = inputs_of(alloc, &ADDI, 1)?;
+    ins.fail_at(slot, calls.saturating_add(1))?;
+    expect_line(rt, alloc, ADDI.words, &mut ins, ADDI.line, ADDI.status)
 }
 
 #[test]
 fn each_call_on_an_input_that_fails_is_told(rt: HostRuntime) -> Result<(), Fail> {
+    let alloc = rt.alloc();
     // It is attached, its 4 bytes are read, and then its end.
-    fail_each(&rt, rt.alloc(), Slot::Image, 6, "INPUT failed i\n")?;
+    fail_each(&rt, alloc, Slot::Image, 6, "INPUT failed i\n")?;
     // It is attached, and its 100 bytes are read.
-    fail_each(&rt, rt.alloc(), Slot::Stream, 101, "INPUT failed s\n")
+    fail_each(&rt, alloc, Slot::Stream, 101, "INPUT failed s\n")
 }
 
-/// The run's line is written up to `put` bytes of it, where the write behind them fails. A write
-/// takes one byte.
-fn expect_front(rt: &impl Abort, alloc: Global, run: &Run, put: usize) -> Result<(), Fail>
-    requires { put ≤ length run.now.line.now }
-{
-    let words = words_of(alloc, run.words)?;
-    let mut ins = inputs_of(alloc, run, 4096)?;
-    let mut out = MemSink::new(alloc, 512, 1)?;
-    out.fail_at((put as u64).saturating_add(1))?;
-    let status = run_check(alloc, &words, &mut ins, &mut out);
-    let due = if put == run.line.len() { run.status } else { 6 };
-    assert_eq!(rt; (status, out.bytes()), (due, &run.line.as_bytes()[..put]));
-    Ok(())
-}
-
-/// Has each write of a run's line fail in turn.
+/// Has each write of a run's line fail in turn. A write takes one byte.
 fn fail_each_write(rt: &impl Abort, alloc: Global, run: &Run) -> Result<(), Fail> {
+    let words = words_of(alloc, run.words)?;
     for put in 0..=run.line.len() {
-        expect_front(rt, alloc, run, put)?;
+        let mut ins = inputs_of(alloc, run, 4096)?;
+        let mut out = MemSink::new(alloc, 512, 1)?;
+        out.fail_at((put as u64).saturating_add(1))?;
+        let status = run_check(alloc, &words, &mut ins, &mut out);
+        let whole = put == run.line.len();
+        assert_eq!(rt; out.bytes(), &run.line.as_bytes()[..put]);
+        assert_eq!(rt; status, if whole { run.status } else { 6 });
     }
     Ok(())
 }
@@ -139,28 +126,23 @@ fn frame_at(bytes: usize) -> (u64, usize)
     }
 }
 
-/// Runs the front of a stream of ADDI that has so many bytes.
-fn expect_cut(rt: &impl Abort, alloc: Global, stream: &[u8], bytes: usize) -> Result<(), Fail>
-    requires { bytes ≤ length stream.now }
-{
-    let (message, offset) = frame_at(bytes);
-    let have = bytes - offset;
-    let line = format!(in alloc;
-        "REJECT message={message} offset={offset} fault=2 Truncated have={have}\n"
-    )?;
-    let mut ins = MemInputs::new(alloc, 4096);
-    add_image(alloc, &mut ins, &ADDI)?;
-    ins.add("s", &stream[..bytes])?;
-    expect_line(rt, alloc, ADDI.words, &mut ins, line.as_str(), 1)
-}
-
 #[test]
 fn a_stream_that_is_cut_anywhere_is_rejected(rt: HostRuntime) -> Result<(), Fail> {
-    let stream = bytes_of(rt.alloc(), ADDI.stream)?;
+    let alloc = rt.alloc();
+    let image = hex::decode(alloc, ADDI.image)?;
+    let stream = hex::decode(alloc, ADDI.stream)?;
     let stream = stream.as_slice();
     assert_eq!(rt; stream.len(), 100);
     for bytes in 0..stream.len() {
-        expect_cut(&rt, rt.alloc(), stream, bytes)?;
+        let (message, offset) = frame_at(bytes);
+        let have = bytes - offset;
+        let line = format!(in alloc;
+            "REJECT message={message} offset={offset} fault=2 Truncated have={have}\n"
+        )?;
+        let mut ins = MemInputs::new(alloc, 4096);
+        ins.add("i", &image)?;
+        ins.add("s", &stream[..bytes])?;
+        expect_line(&rt, alloc, ADDI.words, &mut ins, line.as_str(), 1)?;
     }
     Ok(())
 }

@@ -11,6 +11,4 @@ mod large;
 #[cfg(test)]
 mod runs;
 #[cfg(test)]
-mod segments;
-#[cfg(test)]
 mod support;
