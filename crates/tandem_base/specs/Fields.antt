@@ -3,8 +3,8 @@ use Rattle.std.specs.Prelude.{ℕ, List, take, drop, slice_index}
 use Rattle.std.specs.Int.{w16, w32, w64, from_le_bytes}
 
 -- the byte at an offset
-abbrev pub byte_at : ℕ → List ℕ → ℕ
-byte_at offset bytes = slice_index bytes offset
+abbrev pub u8_at : ℕ → List ℕ → ℕ
+u8_at offset bytes = slice_index bytes offset
 
 -- the number of two bytes from an offset on
 abbrev pub u16_at : ℕ → List ℕ → ℕ

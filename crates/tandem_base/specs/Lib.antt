@@ -4,6 +4,7 @@ pub mod Puts
 pub mod Texts
 pub mod FirstFault
 pub mod Extents
+pub mod Granules
 pub mod Signs
 pub mod Multiplication
 pub mod Division

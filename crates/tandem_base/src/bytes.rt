@@ -1,7 +1,8 @@
 //! One to eight bytes in a row.
 
 ghost use Rattle.std.specs.Prelude.{◌≡◌, ◌<◌, ◌≤◌, ◌↔◌, length, slice_index, IsSome, IfSome};
-ghost use Rattle.tandem_base.specs.Bytes.{little_endian};
+ghost use Rattle.std.specs.Int.{w64, from_le_bytes};
+ghost use Rattle.tandem_base.specs.Bytes.{padded};
 
 use std::marker::Model;
 
@@ -69,7 +70,7 @@ impl Bytes8 {
 
     /// The number that the bytes are, lowest byte first.
     pub fn number(&self) -> u64
-        ensures { result ≡ little_endian self.now }
+        ensures { result ≡ from_le_bytes w64 (padded self.now) }
     {
         u64::from_le_bytes(self.bytes)
     }

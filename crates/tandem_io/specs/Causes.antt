@@ -6,9 +6,9 @@ abbrev pub next_count : ℕ → ℕ
 next_count n = min (n + 1) (2 ^ 64 - 1)
 
 -- a count of faults after one more call: one more where the call failed
-abbrev pub count_after : {T E : Type 0} → ℕ → Result T E → ℕ
-count_after count (Ok _) = count
-count_after count (Err _) = next_count count
+abbrev pub faults_after : {T E : Type 0} → ℕ → Result T E → ℕ
+faults_after count (Ok _) = count
+faults_after count (Err _) = next_count count
 
 -- the count rose, or it stands at 2 ^ 64 - 1, the last value of a counter
 abbrev pub Rose : ℕ → ℕ → Type 0

@@ -3,11 +3,11 @@ use Rattle.std.specs.Prelude.{ℕ, Result, Ok, Err}
 use Rattle.tandem_io.specs.declared.types.Slot.{Slot}
 use Rattle.tandem_io.specs.declared.types.Slot.TheVariants.{Image, Stream}
 use Rattle.tandem_io.specs.Calls.{CallRecord, no_calls}
-use Rattle.tandem_io.specs.Store.{Held, HeldSlot, nothing_held, after_read, after_miss}
+use Rattle.tandem_io.specs.Store.{HeldInputs, HeldSlot, nothing_held, after_read, after_miss}
 
 -- what is held, and the calls on each slot
 pub record Failing : Type 0 where
-  pub held : Held
+  pub held : HeldInputs
   pub image : CallRecord
   pub stream : CallRecord
 

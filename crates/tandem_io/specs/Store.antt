@@ -15,7 +15,7 @@ pub record HeldSlot : Type 0 where
   pub attached : Option Bool
 
 -- the contents by name, the two slots, and how many bytes a read takes at most
-pub record Held : Type 0 where
+pub record HeldInputs : Type 0 where
   pub names : List Named
   pub image : HeldSlot
   pub stream : HeldSlot
@@ -26,20 +26,20 @@ abbrev pub unread : HeldSlot
 unread = record { left = []; gone = []; ended = false; attached = None }
 
 -- nothing is there yet
-abbrev pub nothing_held : ℕ → Held
+abbrev pub nothing_held : ℕ → HeldInputs
 nothing_held step = record { names = []; image = unread; stream = unread; step = step }
 
 -- one more content under its name
-abbrev pub with_content : Held → List ℕ → List ℕ → Held
+abbrev pub with_content : HeldInputs → List ℕ → List ℕ → HeldInputs
 with_content held name bytes = record held { names = held.names ++ (record { name = name; bytes = bytes } ∷ []) }
 
 -- the slot of that name
-abbrev pub slot_of : Slot → Held → HeldSlot
+abbrev pub slot_of : Slot → HeldInputs → HeldSlot
 slot_of Image held = held.image
 slot_of Stream held = held.stream
 
 -- the slot of that name replaced
-abbrev pub with_slot : Slot → Held → HeldSlot → Held
+abbrev pub with_slot : Slot → HeldInputs → HeldSlot → HeldInputs
 with_slot Image held state = record held { image = state }
 with_slot Stream held state = record held { stream = state }
 
@@ -90,5 +90,5 @@ told_of state faults = record {
 }
 
 -- what is told of both slots, with the image's count of faults and the stream's
-abbrev pub slots_of : Held → ℕ → ℕ → Slots
+abbrev pub slots_of : HeldInputs → ℕ → ℕ → Slots
 slots_of held image stream = record { image = told_of held.image image; stream = told_of held.stream stream }

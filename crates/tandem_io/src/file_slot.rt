@@ -5,9 +5,8 @@ ghost use Rattle.std.specs.Prelude.{OnOk, OnErr, IfOk, IsOk, IsErrAnd, is_err, O
 ghost use Rattle.std.specs.IoError.{error_kind};
 ghost use Rattle.std.specs.Io.{ReadsAtMost};
 ghost use Rattle.std.specs.Io.KnownBytes.{Consumes, IsAtEnd, Keeps, ReadConsumes};
-ghost use Rattle.tandem_io.specs.Causes.{HasCause, answered_end, count_after};
-ghost use Rattle.tandem_io.specs.FileSlot.{left_of, left_in, failed_in, errors_in};
-ghost use Rattle.tandem_io.specs.Inputs.{last_answer};
+ghost use Rattle.tandem_io.specs.Causes.{HasCause, answered_end, faults_after};
+ghost use Rattle.tandem_io.specs.FileSlot.{left_of, left_in, failed_in, errors_in, GivesLent};
 ghost use Rattle.tandem_io.specs.Told.{BeginsWith};
 ghost use Rattle.tandem_io.specs.Window.{unread_in};
 
@@ -29,7 +28,7 @@ pub(super) struct FileSlot<F: Read> {
 }
 
 impl<F: Read> Model for FileSlot<F> {
-    ghost use Rattle.tandem_io.specs.FileSlot.{FileSlotView, IsSound, left_of, failed_in, errors_in};
+    ghost use Rattle.tandem_io.specs.FileSlot.{FileSlotView, IsSoundSlot, left_of, failed_in, errors_in};
     ghost use Rattle.tandem_io.specs.Window.{unread_in};
 
     ghost Value = { FileSlotView };
@@ -41,11 +40,11 @@ impl<F: Read> Model for FileSlot<F> {
       errors = errors_in s.file;
     } };
 
-    ghost invariant = { λ s. IsSound s.attached s.file s.window };
+    ghost invariant = { λ s. IsSoundSlot s.attached s.file s.window };
 }
 
 impl<F: Read + Drop> FileSlot<F> {
-    ghost use Rattle.tandem_io.specs.FileSlot.{no_file};
+    ghost use Rattle.tandem_io.specs.FileSlot.{no_file, after_attaching};
 
     /// A slot before its first attach.
     pub(super) fn new() -> FileSlot<F>
@@ -65,10 +64,8 @@ impl<F: Read + Drop> FileSlot<F> {
         ensures found { result ≡ Ok true ↔ IsOk opened }
         ensures missing { result ≡ Ok false ↔ IsErrAnd opened (λ e. error_kind e ≡ ErrorKind.NotFound) }
         ensures left { IfOk opened (λ file. self.new.told.left ≡ F.remaining file) }
-        ensures kept { OnErr opened (self.new.told.left ≡ self.old.told.left) }
-        ensures ended { self.new.told.ended ≡ self.old.told.ended }
-        ensures attached { self.new.told.attached ≡ last_answer self.old.told.attached result }
-        ensures faults { self.new.told.faults ≡ count_after self.old.told.faults result }
+        ensures after { self.new ≡ after_attaching self.old self.new.told.left result }
+        ensures faults { self.new.told.faults ≡ faults_after self.old.told.faults result }
         ensures cause { HasCause self.old.told.faults self.new.told.faults result }
         ensures count { self.old.told.faults ≤ self.new.told.faults }
     {
@@ -102,8 +99,9 @@ impl<F: Read + Drop> FileSlot<F> {
         ensures cause { HasCause self.old.told.faults self.new.told.faults result }
         ensures count { self.old.told.faults ≤ self.new.told.faults }
         ensures failed { is_err result ≡ self.new.failed }
-        ensures errors { self.new.errors ≡ count_after self.old.errors result }
-        ensures faults { self.new.told.faults ≡ count_after self.old.told.faults result }
+        ensures errors { self.new.errors ≡ faults_after self.old.errors result }
+        ensures faults { self.new.told.faults ≡ faults_after self.old.told.faults result }
+        ensures waiting { 0 < length self.old.lent → GivesLent self.old.lent self.new.lent result buf.new }
     {
         match read_on(&mut self.file, &mut self.window) {
             Ok(()) => {
@@ -132,9 +130,12 @@ impl<F: Read + Drop> FileSlot<F> {
     pub(super) fn skip(&mut self, n: usize)
         requires { n ≤ length self.old.lent }
         ensures bytes { Consumes self.old.told.left self.new.told.left (take n self.old.lent) }
+        ensures rest { self.new.lent ≡ drop n self.old.lent }
         ensures ended { self.new.told.ended ≡ (self.old.told.ended && nat_eq n 0) }
         ensures attached { self.new.told.attached ≡ self.old.told.attached }
         ensures faults { self.new.told.faults ≡ self.old.told.faults }
+        ensures failed { self.new.failed ≡ self.old.failed }
+        ensures errors { self.new.errors ≡ self.old.errors }
     {
         self.window.skip(n);
         self.ended &= n == 0;
@@ -149,8 +150,9 @@ fn read_on<F: Read + Drop>(file: &mut Option<Reader<F>>, window: &mut Window) ->
     ensures file { file.old ≡ None → file.new ≡ None }
     ensures window { file.old ≡ None → unread_in window.new ≡ unread_in window.old }
     ensures failed { failed_in file.new ≡ is_err result }
-    ensures errors { errors_in file.new ≡ count_after (errors_in file.old) result }
+    ensures errors { errors_in file.new ≡ faults_after (errors_in file.old) result }
     ensures drained { OnErr result (unread_in window.new ≡ []) }
+    ensures waiting { 0 < length (unread_in window.old) → IsOk result × (unread_in window.new ≡ unread_in window.old) }
 {
     match file {
         Some(file) if window.is_empty() => window.fill(file),

@@ -136,7 +136,11 @@ impl Source for MemInputs {
         &[]
     }
 
-    fn skip(&mut self, _n: usize) {}
+    /// Takes none, as none is lent.
+    fn skip(&mut self, _n: usize)
+        requires { _n ≤ 0 }
+        ensures { self.new ≡ self.old }
+    {}
 }
 
 impl Inputs for MemInputs {

@@ -22,9 +22,9 @@ pub struct MemSink {
 
 impl Model for MemSink {
     ghost use Rattle.std.specs.Prelude.{◌≤◌, length, vec_len, vec_capacity};
-    ghost use Rattle.tandem_io.specs.MemSink.{Kept};
+    ghost use Rattle.tandem_io.specs.MemSink.{MemSinkView};
 
-    ghost Value = { Kept };
+    ghost Value = { MemSinkView };
 
     ghost view = { λ s. record { written = s.bytes.items; room = s.room; step = s.step; calls = s.calls } };
 

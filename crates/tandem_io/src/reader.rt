@@ -3,7 +3,7 @@
 ghost use Rattle.std.specs.Prelude.{◌≡◌, false, is_err};
 ghost use Rattle.std.specs.Io.{ReadsAtMost};
 ghost use Rattle.std.specs.Io.KnownBytes.{ReadConsumes};
-ghost use Rattle.tandem_io.specs.Causes.{count_after};
+ghost use Rattle.tandem_io.specs.Causes.{faults_after};
 
 use std::io::{self, Read};
 use std::marker::Model;
@@ -41,7 +41,7 @@ impl<F: Read + Drop> Reader<F> {
         ensures bound { ReadsAtMost result buf.new }
         ensures bytes { ReadConsumes self.old.left self.new.left result buf.new }
         ensures failed { self.new.failed ≡ is_err result }
-        ensures errors { self.new.errors ≡ count_after self.old.errors result }
+        ensures errors { self.new.errors ≡ faults_after self.old.errors result }
     {
         let answer = self.file.read(buf);
         self.failed = answer.is_err();

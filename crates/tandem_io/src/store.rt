@@ -19,9 +19,9 @@ pub(super) struct Store {
 
 impl Model for Store {
     ghost use Rattle.std.specs.Prelude.{◌≤◌};
-    ghost use Rattle.tandem_io.specs.Store.{Held};
+    ghost use Rattle.tandem_io.specs.Store.{HeldInputs};
 
-    ghost Value = { Held };
+    ghost Value = { HeldInputs };
 
     ghost use Rattle.tandem_io.specs.Cursor.{slot_at, PointsInto};
 

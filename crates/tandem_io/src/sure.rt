@@ -1,8 +1,9 @@
 //! Inputs and a sink that never fail.
 
 ghost use Rattle.std.specs.Prelude.{◌≡◌, ◌<◌, ◌≤◌, [], OnOk, OnErr, IfOk, IsOk, is_some, None, Some, Ok, length};
+ghost use Rattle.std.specs.Prelude.{map, take};
 ghost use Rattle.std.specs.Io.{ReadsAtMost};
-ghost use Rattle.std.specs.Io.KnownBytes.{ReadConsumes};
+ghost use Rattle.std.specs.Io.KnownBytes.{Consumes, ReadConsumes};
 
 use super::sink::Sink;
 use super::source::{Inputs, Source};
@@ -18,9 +19,9 @@ pub struct SureInputs {
 }
 
 impl Model for SureInputs {
-    ghost use Rattle.tandem_io.specs.Store.{Held};
+    ghost use Rattle.tandem_io.specs.Store.{HeldInputs};
 
-    ghost Value = { Held };
+    ghost Value = { HeldInputs };
 
     ghost view = { λ s. s.store };
 }
@@ -50,9 +51,9 @@ impl SureInputs {
 }
 
 impl Source for SureInputs {
-    ghost use Rattle.tandem_io.specs.Told.{ReadLogs};
+    ghost use Rattle.tandem_io.specs.Told.{Logs, ReadLogs, taken};
     ghost use Rattle.tandem_io.specs.Inputs.{Beside, beside_of};
-    ghost use Rattle.tandem_io.specs.Store.{log_of, slots_of, taken_by, after_read, lent_of};
+    ghost use Rattle.tandem_io.specs.Store.{log_of, slots_of, taken_by, after_read, lent_of, after_skip};
 
     ghost left = { λ s. Some s.stream.left };
 
@@ -91,7 +92,15 @@ impl Source for SureInputs {
         self.store.ready()
     }
 
-    fn skip(&mut self, n: usize) {
+    /// Takes the first `n` of the bytes that it lends.
+    fn skip(&mut self, n: usize)
+        requires { n ≤ length (lent_of self.old.stream self.old.step) }
+        ensures bytes { Consumes (Some self.old.stream.left) (Some self.new.stream.left)
+            (take n (lent_of self.old.stream self.old.step)) }
+        ensures logged { Logs (log_of self.old.stream) (log_of self.new.stream)
+            (map taken (take n (lent_of self.old.stream self.old.step))) }
+        ensures after { self.new ≡ record self.old { stream = after_skip self.old.stream n } }
+    {
         self.store.skip(n);
     }
 }
@@ -139,8 +148,10 @@ impl Inputs for SureInputs {
 pub struct SureSink;
 
 impl SureSink {
-    /// A sink.
-    pub fn new() -> SureSink {
+    /// A sink; each is as any other.
+    pub fn new() -> SureSink
+        ensures { result ≡ record {} }
+    {
         SureSink
     }
 }

@@ -4,18 +4,18 @@ ghost use Rattle.std.specs.Prelude.{◌≡◌, ◌+◌, ◌-◌, ◌<◌, ◌≤
 ghost use Rattle.std.specs.Prelude.{IfOk, OnOk, OnErr, is_err};
 ghost use Rattle.std.specs.Io.{ReadsAtMost};
 ghost use Rattle.std.specs.Io.KnownBytes.{Consumes, IsAtEnd, Keeps};
-ghost use Rattle.tandem_io.specs.Causes.{count_after};
+ghost use Rattle.tandem_io.specs.Causes.{faults_after};
 
 use super::reader::Reader;
 use std::io::{self, Read};
 
 /// How many bytes of a file are asked for at a time: 64 KiB.
-const PIECE: usize = 65_536;
+const WINDOW_BYTES: usize = 65_536;
 
 /// A piece of a file, of which `bytes[start..end]` is not yet given on.
 #[derive(Drop)]
 pub(super) struct Window {
-    bytes: [u8; PIECE],
+    bytes: [u8; WINDOW_BYTES],
     start: usize,
     end: usize,
     ghost ordered: { start ≤ end },
@@ -30,7 +30,7 @@ impl Window {
         ensures { unread_in result ≡ [] }
     {
         Window {
-            bytes: [0; PIECE],
+            bytes: [0; WINDOW_BYTES],
             start: 0,
             end: 0,
         }
@@ -59,7 +59,7 @@ impl Window {
         ensures err { OnErr result (Keeps file.old.left file.new.left) }
         ensures empty { OnErr result (unread_in self.new ≡ []) }
         ensures failed { file.new.failed ≡ is_err result }
-        ensures errors { file.new.errors ≡ count_after file.old.errors result }
+        ensures errors { file.new.errors ≡ faults_after file.old.errors result }
     {
         self.start = 0;
         self.end = 0;
@@ -98,14 +98,17 @@ impl Window {
     }
 }
 
-fn read_piece<F: Read + Drop>(file: &mut Reader<F>, bytes: &mut [u8; PIECE]) -> io::Result<usize>
+fn read_piece<F: Read + Drop>(
+    file: &mut Reader<F>,
+    bytes: &mut [u8; WINDOW_BYTES],
+) -> io::Result<usize>
     ensures within { ReadsAtMost result bytes.new }
     ensures most { IfOk result (λ n. n ≤ 65536) }
     ensures ok { IfOk result (λ n. Consumes file.old.left file.new.left (take n bytes.new)) }
     ensures end { IfOk result (λ n. n ≡ 0 → IsAtEnd file.new.left) }
     ensures err { OnErr result (Keeps file.old.left file.new.left) }
     ensures failed { file.new.failed ≡ is_err result }
-    ensures errors { file.new.errors ≡ count_after file.old.errors result }
+    ensures errors { file.new.errors ≡ faults_after file.old.errors result }
 {
     file.read(&mut bytes[..])
 }

@@ -3,7 +3,7 @@
 ghost use Rattle.std.specs.Prelude.{◌≡◌, ◌<◌, ◌≤◌, length, not, false, IfOk, is_err};
 ghost use Rattle.std.specs.Io.{WritesAtMost};
 ghost use Rattle.std.specs.Io.KnownBytes.{WriteAppends};
-ghost use Rattle.tandem_io.specs.Causes.{HasCause, Rose, count_after};
+ghost use Rattle.tandem_io.specs.Causes.{HasCause, Rose, faults_after};
 ghost use Rattle.tandem_io.specs.WriterSink.{took_some, errors_after};
 
 use super::sink::Sink;
@@ -14,13 +14,13 @@ use std::marker::Model;
 /// A writer, whether its last write was an error, and how many of its writes were. A write that took
 /// no byte is an error too.
 #[derive(Drop)]
-struct Writer<W: Write> {
+struct CountedWriter<W: Write> {
     to: W,
     failed: bool,
     errors: u64,
 }
 
-impl<W: Write> Model for Writer<W> {
+impl<W: Write> Model for CountedWriter<W> {
     ghost use Rattle.tandem_io.specs.WriterSink.{WriterView};
 
     ghost Value = { WriterView };
@@ -28,7 +28,7 @@ impl<W: Write> Model for Writer<W> {
     ghost view = { λ w. record { written = W.contents w.to; failed = w.failed; errors = w.errors } };
 }
 
-impl<W: Write + Drop> Writer<W> {
+impl<W: Write + Drop> CountedWriter<W> {
     /// Writes once, and keeps whether that was an error.
     fn write(&mut self, buf: &[u8]) -> io::Result<usize>
         ensures bound { WritesAtMost result buf.now }
@@ -51,7 +51,7 @@ impl<W: Write + Drop> Writer<W> {
 /// is a write that took no byte.
 #[derive(Drop)]
 pub struct WriterSink<W: Write> {
-    out: Writer<W>,
+    out: CountedWriter<W>,
 }
 
 impl<W: Write> Model for WriterSink<W> {
@@ -69,7 +69,7 @@ impl<W: Write + Drop> WriterSink<W> {
     pub(super) fn over(to: W) -> WriterSink<W>
         ensures { result ≡ new_sink (W.contents to) }
     {
-        let out = Writer {
+        let out = CountedWriter {
             to,
             failed: false,
             errors: 0,
@@ -92,7 +92,7 @@ impl<W: Write + Drop> Sink for WriterSink<W> {
         ensures cause { HasCause self.old.faults self.new.faults result }
         ensures count { self.old.faults ≤ self.new.faults }
         ensures failed { is_err result ≡ self.new.failed }
-        ensures faults { self.new.faults ≡ count_after self.old.faults result }
+        ensures faults { self.new.faults ≡ faults_after self.old.faults result }
     {
         match self.out.write(buf) {
             Ok(n) if n > 0 => Ok(n),
