@@ -2,6 +2,7 @@
 -- a write keeps, and what a trap and MRET do (Unprivileged ISA 20191213, chapters 9 and 10, for the
 -- instructions and the counters; the profile of machine mode is this project's own).
 use Rattle.std.specs.Prelude.{ℕ, ◌+◌, ◌-◌, ◌*◌, ◌/◌, ◌%◌, ◌^◌, ◌==◌, Bool, not, if◌then◌else◌, nat_eq}
+use Rattle.std.specs.Int.{bit_at}
 use Rattle.std.specs.List.{list_any}
 use Rattle.tandem_base.specs.CsrNumbers as csr
 use Rattle.csr_file.specs.declared.answers.CsrRead.{CsrRead}
@@ -28,10 +29,6 @@ is_implemented number = list_any (nat_eq number) csr.numbers
 abbrev pub is_read_only : ℕ → Bool
 is_read_only number = number / 2 ^ 10 % 4 == 3
 
--- bit k of a value, as 0 or 1
-abbrev pub bit : ℕ → ℕ → ℕ
-bit k value = value / 2 ^ k % 2
-
 -- the interrupt enable MIE, bit 3; the one before the last trap, MPIE, bit 7; MPP, bits 12:11, is
 -- always 11, machine mode
 abbrev pub mstatus_of : ℕ → ℕ → ℕ
@@ -43,11 +40,11 @@ multiple_of_4 value = value - value % 4
 
 -- mstatus keeps MIE and MPIE
 abbrev pub mstatus_kept : ℕ → ℕ
-mstatus_kept value = mstatus_of (bit 3 value) (bit 7 value)
+mstatus_kept value = mstatus_of (bit_at value 3) (bit_at value 7)
 
 -- mie keeps MSIE, MTIE and MEIE, bits 3, 7 and 11
 abbrev pub mie_kept : ℕ → ℕ
-mie_kept value = bit 11 value * 2 ^ 11 + bit 7 value * 2 ^ 7 + bit 3 value * 2 ^ 3
+mie_kept value = bit_at value 11 * 2 ^ 11 + bit_at value 7 * 2 ^ 7 + bit_at value 3 * 2 ^ 3
 
 -- what a write of a register keeps of the value
 abbrev pub kept : ℕ → ℕ → ℕ
@@ -111,7 +108,7 @@ csrs_at_start hart = record {
 -- a trap at an instruction, with its cause and the value for mtval: MPIE takes MIE, and MIE is 0
 abbrev pub trapped : CsrValues → ℕ → ℕ → ℕ → CsrValues
 trapped csrs cause pc value = record csrs {
-  mstatus = mstatus_of 0 (bit 3 csrs.mstatus);
+  mstatus = mstatus_of 0 (bit_at csrs.mstatus 3);
   mepc = multiple_of_4 pc;
   mcause = cause;
   mtval = value;
@@ -119,4 +116,4 @@ trapped csrs cause pc value = record csrs {
 
 -- MRET: MIE takes MPIE, and MPIE is 1
 abbrev pub returned : CsrValues → CsrValues
-returned csrs = record csrs { mstatus = mstatus_of (bit 7 csrs.mstatus) 1 }
+returned csrs = record csrs { mstatus = mstatus_of (bit_at csrs.mstatus 7) 1 }

@@ -14,8 +14,10 @@ use Rattle.rv_decode.specs.Decoding.{decoding, opcode_field, rd_field, funct3_fi
 use Rattle.rv_decode.specs.Decoding.{funct6_field}
 use Rattle.rv_decode.specs.Decoding.{funct5_field, aq_bit, rl_bit, i_imm, s_imm, b_imm, u_imm, j_imm}
 use Rattle.rv_decode.specs.Decoding.{as_jalr, as_branch}
-use Rattle.rv_decode.specs.Decoding.{as_load, as_store, as_alu_imm, as_alu_imm_word, as_alu, branch_ops, load_ops}
-use Rattle.rv_decode.specs.Decoding.{store_ops, csr_ops, amo_ops, widths, reg_ops, same_row, as_fence, as_csr}
+use Rattle.rv_decode.specs.Decoding.{as_load, as_store, as_alu_imm, as_alu_imm_word}
+use Rattle.rv_decode.specs.Decoding.{as_alu, listed_branch_ops, listed_load_ops}
+use Rattle.rv_decode.specs.Decoding.{listed_store_ops, listed_csr_ops, listed_amo_ops, widths, listed_reg_ops}
+use Rattle.rv_decode.specs.Decoding.{same_row, as_fence, as_csr}
 use Rattle.rv_decode.specs.Decoding.{as_system, as_atomic_of, as_atomic}
 use Rattle.rv_decode.specs.declared.operations.ImmOp.{ImmOp}
 use Rattle.rv_decode.specs.declared.operations.ImmOp.TheVariants as imm
@@ -94,7 +96,7 @@ module _ (w : ℕ) (lt : w < 2 ^ 32) where
       let n = part w 31 31 * 2 ^ 12 + part w 7 7 * 2 ^ 11 + part w 30 25 * 2 ^ 5 + part w 11 8 * 2 in
       let bits : twos_complement 13 (represents 13 n) ≡ n = bits_again 13 n (omega arith) in
       found (λ op. branch_funct3 op == funct3_field w) (λ op. Branch op (rs1_field w) (rs2_field w) (b_imm w))
-      branch_ops
+      listed_branch_ops
       (λ op f.
       record {
         is = rw bits (omega (arith, o, lt, eqb-true (branch_funct3 op) (funct3_field w) f));
@@ -110,7 +112,8 @@ module _ (w : ℕ) (lt : w < 2 ^ 32) where
   load_found o =
       let n = part w 31 20 in
       let bits : twos_complement 12 (represents 12 n) ≡ n = bits_again 12 n (omega arith) in
-      found (λ op. load_funct3 op == funct3_field w) (λ op. Load op (rd_field w) (rs1_field w) (i_imm w)) load_ops
+      found (λ op. load_funct3 op == funct3_field w) (λ op. Load op (rd_field w) (rs1_field w) (i_imm w))
+      listed_load_ops
       (λ op f.
       record {
         is = rw bits (omega (arith, o, lt, eqb-true (load_funct3 op) (funct3_field w) f));
@@ -121,7 +124,8 @@ module _ (w : ℕ) (lt : w < 2 ^ 32) where
   store_found o =
       let n = part w 31 25 * 2 ^ 5 + part w 11 7 in
       let bits : twos_complement 12 (represents 12 n) ≡ n = bits_again 12 n (omega arith) in
-      found (λ op. store_funct3 op == funct3_field w) (λ op. Store op (rs1_field w) (rs2_field w) (s_imm w)) store_ops
+      found (λ op. store_funct3 op == funct3_field w) (λ op. Store op (rs1_field w) (rs2_field w) (s_imm w))
+      listed_store_ops
       (λ op f.
       record {
         is = rw bits (omega (arith, o, lt, eqb-true (store_funct3 op) (funct3_field w) f));
@@ -131,7 +135,7 @@ module _ (w : ℕ) (lt : w < 2 ^ 32) where
   alu_found : (opcode : ℕ) → part w 6 0 ≡ opcode → IfSome (as_alu opcode w) (Encodes w)
   alu_found opcode o =
       found (λ op. same_row (reg_row op) (row (funct7_field w) (funct3_field w) opcode))
-      (λ op. Alu op (rd_field w) (rs1_field w) (rs2_field w)) reg_ops
+      (λ op. Alu op (rd_field w) (rs1_field w) (rs2_field w)) listed_reg_ops
       (λ op f.
       let rows = and_parts _ _ f in
       let first = and_parts _ _ rows.0 in
@@ -225,7 +229,8 @@ module _ (w : ℕ) (lt : w < 2 ^ 32) where
 
   csr_found : part w 6 0 ≡ 0b1110011 → IfSome (as_csr w) (Encodes w)
   csr_found o =
-      found (λ op. csr_funct3 op == funct3_field w) (λ op. Csr op (rd_field w) (rs1_field w) (part w 31 20)) csr_ops
+      found (λ op. csr_funct3 op == funct3_field w) (λ op. Csr op (rd_field w) (rs1_field w) (part w 31 20))
+      listed_csr_ops
       (λ op f.
       record {
         is = omega (arith, o, lt, eqb-true (csr_funct3 op) (funct3_field w) f);
@@ -265,7 +270,7 @@ module _ (w : ℕ) (lt : w < 2 ^ 32) where
       })
       (λ _.
       found (λ op. amo_funct5 op == funct5_field w)
-      (λ op. Amo op wide (aq_bit w) (rl_bit w) (rd_field w) (rs1_field w) (rs2_field w)) amo_ops
+      (λ op. Amo op wide (aq_bit w) (rl_bit w) (rd_field w) (rs1_field w) (rs2_field w)) listed_amo_ops
       (λ op is.
       record {
         is = rw (aq, rl) (omega (arith, o, lt, f3, eqb-true (amo_funct5 op) (funct5_field w) is));

@@ -3,7 +3,8 @@ use Rattle.std.specs.Prelude.{ℕ, ◌+◌, ◌*◌, ◌^◌, ◌==◌, ℤ, pos
 use Rattle.std.specs.Prelude.{if◌then◌else◌, List, [], ◌∷◌, find, Option, None, Some, option_map, option_and_then}
 use Rattle.tandem_base.specs.Signs.{represents}
 use Rattle.rv_decode.specs.Formats.{part}
-use Rattle.rv_decode.specs.Operations.{Row, row, branch_funct3, load_funct3, store_funct3, reg_row, csr_funct3}
+use Rattle.rv_decode.specs.declared.rows.Row.{Row}
+use Rattle.rv_decode.specs.Operations.{row, branch_funct3, load_funct3, store_funct3, reg_row, csr_funct3}
 use Rattle.rv_decode.specs.Operations.{amo_funct5, atomic_funct3}
 use Rattle.rv_decode.specs.declared.operations.BranchOp.{BranchOp}
 use Rattle.rv_decode.specs.declared.operations.BranchOp.TheVariants.{Beq, Bne, Blt, Bge, Bltu, Bgeu}
@@ -95,46 +96,46 @@ j_imm word =
 -- ---- the operations of each form, by the columns of the listings
 
 -- the branches
-abbrev pub branch_ops : List BranchOp
-branch_ops = Beq ∷ Bne ∷ Blt ∷ Bge ∷ Bltu ∷ Bgeu ∷ []
+abbrev pub listed_branch_ops : List BranchOp
+listed_branch_ops = Beq ∷ Bne ∷ Blt ∷ Bge ∷ Bltu ∷ Bgeu ∷ []
 
 -- the one with this field
 abbrev pub branch_at : ℕ → Option BranchOp
-branch_at funct3 = find (λ op. branch_funct3 op == funct3) branch_ops
+branch_at funct3 = find (λ op. branch_funct3 op == funct3) listed_branch_ops
 
 -- the loads
-abbrev pub load_ops : List LoadOp
-load_ops = Lb ∷ Lh ∷ Lw ∷ Ld ∷ Lbu ∷ Lhu ∷ Lwu ∷ []
+abbrev pub listed_load_ops : List LoadOp
+listed_load_ops = Lb ∷ Lh ∷ Lw ∷ Ld ∷ Lbu ∷ Lhu ∷ Lwu ∷ []
 
 -- the one with this field
 abbrev pub load_at : ℕ → Option LoadOp
-load_at funct3 = find (λ op. load_funct3 op == funct3) load_ops
+load_at funct3 = find (λ op. load_funct3 op == funct3) listed_load_ops
 
 -- the stores
-abbrev pub store_ops : List StoreOp
-store_ops = Sb ∷ Sh ∷ Sw ∷ Sd ∷ []
+abbrev pub listed_store_ops : List StoreOp
+listed_store_ops = Sb ∷ Sh ∷ Sw ∷ Sd ∷ []
 
 -- the one with this field
 abbrev pub store_at : ℕ → Option StoreOp
-store_at funct3 = find (λ op. store_funct3 op == funct3) store_ops
+store_at funct3 = find (λ op. store_funct3 op == funct3) listed_store_ops
 
 -- the CSR instructions
-abbrev pub csr_ops : List CsrOp
-csr_ops = Rw ∷ Rs ∷ Rc ∷ Rwi ∷ Rsi ∷ Rci ∷ []
+abbrev pub listed_csr_ops : List CsrOp
+listed_csr_ops = Rw ∷ Rs ∷ Rc ∷ Rwi ∷ Rsi ∷ Rci ∷ []
 
 -- the one with this field
 abbrev pub csr_at : ℕ → Option CsrOp
-csr_at funct3 = find (λ op. csr_funct3 op == funct3) csr_ops
+csr_at funct3 = find (λ op. csr_funct3 op == funct3) listed_csr_ops
 
 -- the atomic operations
-abbrev pub amo_ops : List AmoOp
-amo_ops = amo.Swap ∷ amo.Add ∷ amo.Xor ∷ amo.And ∷ amo.Or ∷ amo.Min ∷ amo.Max ∷ amo.Minu ∷ amo.Maxu ∷ []
+abbrev pub listed_amo_ops : List AmoOp
+listed_amo_ops = amo.Swap ∷ amo.Add ∷ amo.Xor ∷ amo.And ∷ amo.Or ∷ amo.Min ∷ amo.Max ∷ amo.Minu ∷ amo.Maxu ∷ []
 
 -- the one with this field
 abbrev pub amo_at : ℕ → Option AmoOp
 amo_at funct5 =
     find (λ op. amo_funct5 op == funct5)
-    amo_ops
+    listed_amo_ops
 
 -- words, and doublewords
 abbrev pub widths : List Bool
@@ -149,15 +150,15 @@ abbrev pub same_row : Row → Row → Bool
 same_row a b = (a.funct7 == b.funct7) && (a.funct3 == b.funct3) && (a.opcode == b.opcode)
 
 -- the operations on registers
-abbrev pub reg_ops : List RegOp
-reg_ops =
+abbrev pub listed_reg_ops : List RegOp
+listed_reg_ops =
     Add ∷ Sub ∷ Sll ∷ Slt ∷ Sltu ∷ Xor ∷ Srl ∷ Sra ∷ Or ∷ And
     ∷ Mul ∷ Mulh ∷ Mulhsu ∷ Mulhu ∷ Div ∷ Divu ∷ Rem ∷ Remu
     ∷ Addw ∷ Subw ∷ Sllw ∷ Srlw ∷ Sraw ∷ Mulw ∷ Divw ∷ Divuw ∷ Remw ∷ Remuw ∷ []
 
 -- the one of this line
 abbrev pub reg_at : Row → Option RegOp
-reg_at line = find (λ op. same_row (reg_row op) line) reg_ops
+reg_at line = find (λ op. same_row (reg_row op) line) listed_reg_ops
 
 -- ---- the words of each opcode
 

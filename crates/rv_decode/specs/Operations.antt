@@ -1,6 +1,7 @@
 -- What tells the operations of one form apart: the columns of the listings of chapter 24.
 use Rattle.std.specs.Prelude.{ℕ, ℤ, Bool, true, false}
 use Rattle.rv_decode.specs.Formats.{twos_complement, IsSigned, IsAmount, i_type, r_type, shift_type}
+use Rattle.rv_decode.specs.declared.rows.Row.{Row}
 use Rattle.rv_decode.specs.declared.operations.BranchOp.{BranchOp}
 use Rattle.rv_decode.specs.declared.operations.BranchOp.TheVariants.{Beq, Bne, Blt, Bge, Bltu, Bgeu}
 use Rattle.rv_decode.specs.declared.operations.LoadOp.{LoadOp}
@@ -98,13 +99,7 @@ IsOperand op imm = IsHeld (imm_row op).imm imm
 abbrev pub imm_word : ImmOp → ℤ → ℕ → ℕ → ℕ
 imm_word op imm rs1 rd = word_with (imm_row op).imm imm rs1 (imm_row op).funct3 rd (imm_row op).opcode
 
--- the three columns of an operation on registers
-pub record Row : Type 0 where
-  pub funct7 : ℕ
-  pub funct3 : ℕ
-  pub opcode : ℕ
-
--- a line of the listing
+-- a line of the listing: the three columns of an operation on registers
 abbrev pub row : ℕ → ℕ → ℕ → Row
 row funct7 funct3 opcode = record { funct7 = funct7; funct3 = funct3; opcode = opcode }
 

@@ -93,30 +93,30 @@ is_control (Jalr rd rs1 imm) r = is_x rs1 r
 is_control _ r = false
 
 -- the register that an instruction has as rd, x0 too
-abbrev pub rd_of : Insn → Option Register
-rd_of (Lui rd imm) = Some (register.X rd)
-rd_of (Auipc rd imm) = Some (register.X rd)
-rd_of (Jal rd imm) = Some (register.X rd)
-rd_of (Jalr rd rs1 imm) = Some (register.X rd)
-rd_of (Branch op rs1 rs2 imm) = None
-rd_of (Load op rd rs1 imm) = Some (register.X rd)
-rd_of (Store op rs1 rs2 imm) = None
-rd_of (AluImm op rd rs1 imm) = Some (register.X rd)
-rd_of (Alu op rd rs1 rs2) = Some (register.X rd)
-rd_of (Fence fm before after rd rs1) = None
-rd_of Ecall = None
-rd_of Ebreak = None
-rd_of Mret = None
-rd_of Wfi = None
-rd_of (Csr op rd source number) = Some (register.X rd)
-rd_of (Lr wide aq rl rd rs1) = Some (register.X rd)
-rd_of (Sc wide aq rl rd rs1 rs2) = Some (register.X rd)
-rd_of (Amo op wide aq rl rd rs1 rs2) = Some (register.X rd)
+abbrev pub named_rd : Insn → Option Register
+named_rd (Lui rd imm) = Some (register.X rd)
+named_rd (Auipc rd imm) = Some (register.X rd)
+named_rd (Jal rd imm) = Some (register.X rd)
+named_rd (Jalr rd rs1 imm) = Some (register.X rd)
+named_rd (Branch op rs1 rs2 imm) = None
+named_rd (Load op rd rs1 imm) = Some (register.X rd)
+named_rd (Store op rs1 rs2 imm) = None
+named_rd (AluImm op rd rs1 imm) = Some (register.X rd)
+named_rd (Alu op rd rs1 rs2) = Some (register.X rd)
+named_rd (Fence fm before after rd rs1) = None
+named_rd Ecall = None
+named_rd Ebreak = None
+named_rd Mret = None
+named_rd Wfi = None
+named_rd (Csr op rd source number) = Some (register.X rd)
+named_rd (Lr wide aq rl rd rs1) = Some (register.X rd)
+named_rd (Sc wide aq rl rd rs1 rs2) = Some (register.X rd)
+named_rd (Amo op wide aq rl rd rs1 rs2) = Some (register.X rd)
 
 -- the CSR that it names
-abbrev pub csr_of : Insn → Option Register
-csr_of (Csr op rd source number) = Some (register.Csr number)
-csr_of _ = None
+abbrev pub named_csr : Insn → Option Register
+named_csr (Csr op rd source number) = Some (register.Csr number)
+named_csr _ = None
 
 -- it is that number
 abbrev pub is_number : Option ℕ → ℕ → Bool

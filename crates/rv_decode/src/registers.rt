@@ -19,7 +19,7 @@ pub enum Register {
 }
 
 /// Whether it is the integer register of that number; x0 is never meant.
-pub fn is_x(number: u8, r: Register) -> bool
+pub(crate) fn is_x(number: u8, r: Register) -> bool
     ensures { result ≡ table.is_x number r }
 {
     match r {
@@ -29,7 +29,7 @@ pub fn is_x(number: u8, r: Register) -> bool
 }
 
 /// Whether it is the CSR of that number.
-pub fn is_csr(number: u16, r: Register) -> bool
+pub(crate) fn is_csr(number: u16, r: Register) -> bool
     ensures { result ≡ table.is_csr number r }
 {
     match r {
@@ -50,7 +50,7 @@ pub fn writes_csr(op: CsrOp, source: u8) -> bool
 }
 
 /// Whether the source of a CSR instruction is a register, and not an immediate (section 9.1).
-pub fn from_register(op: CsrOp) -> bool
+pub(crate) fn from_register(op: CsrOp) -> bool
     ensures { result ≡ table.from_register op }
 {
     match op {
@@ -133,8 +133,8 @@ pub fn is_control(insn: &Insn, r: Register) -> bool
 }
 
 /// The register that the instruction has as rd, x0 too, and that of an SC whether it stored or not.
-pub fn rd_of(insn: &Insn) -> Option<Register>
-    ensures { result ≡ table.rd_of insn.now }
+pub fn named_rd(insn: &Insn) -> Option<Register>
+    ensures { result ≡ table.named_rd insn.now }
 {
     match *insn {
         Insn::Lui { rd, .. } | Insn::Auipc { rd, .. } => Some(Register::X(rd)),
@@ -149,8 +149,8 @@ pub fn rd_of(insn: &Insn) -> Option<Register>
 }
 
 /// The CSR that the instruction names.
-pub fn csr_of(insn: &Insn) -> Option<Register>
-    ensures { result ≡ table.csr_of insn.now }
+pub fn named_csr(insn: &Insn) -> Option<Register>
+    ensures { result ≡ table.named_csr insn.now }
 {
     match *insn {
         Insn::Csr { number, .. } => Some(Register::Csr(number)),

@@ -91,7 +91,7 @@ pub fn funct3_of_width(wide: bool) -> u32
     if wide { 0b011 } else { 0b010 }
 }
 
-/// funct7, funct3 and the opcode.
+/// The three columns of an operation on registers: funct7, funct3 and the opcode.
 #[derive(Clone, Copy)]
 pub struct Row {
     pub funct7: u32,
@@ -113,9 +113,10 @@ impl Row {
 
 /// The columns of an operation on registers.
 pub fn row_of(op: RegOp) -> Row
-    ensures funct7 { (result.funct7 ≡ (reg_row op).funct7) × (result.funct7 < 2 ^ 7) }
-    ensures funct3 { (result.funct3 ≡ (reg_row op).funct3) × (result.funct3 < 2 ^ 3) }
-    ensures opcode { (result.opcode ≡ (reg_row op).opcode) × (result.opcode < 2 ^ 7) }
+    ensures is { result ≡ reg_row op }
+    ensures funct7 { result.funct7 < 2 ^ 7 }
+    ensures funct3 { result.funct3 < 2 ^ 3 }
+    ensures opcode { result.opcode < 2 ^ 7 }
 {
     match op {
         RegOp::Add => Row::new(0b0000000, 0b000, 0b0110011),

@@ -7,7 +7,8 @@ use Rattle.std.proofs.Math.Seq.{drop-cons}
 use Rattle.std.proofs.Math.ListN.{drop_of_length-le}
 use Rattle.std.proofs.lemmas.Bool.{cases_Bool, eqb-true}
 use Rattle.std.proofs.lemmas.Option.{slice_get_within, get_or_from_slice_get}
-use Rattle.csr_file.specs.CsrFile.{CsrValues, bit, kept, mie_kept, mstatus_kept, mstatus_of, multiple_of_4}
+use Rattle.std.specs.Int.{bit_at}
+use Rattle.csr_file.specs.CsrFile.{CsrValues, kept, mie_kept, mstatus_kept, mstatus_of, multiple_of_4}
 use Rattle.csr_file.specs.CsrFile.{written}
 use Rattle.msg_frames.specs.declared.csrs.CsrValue.{CsrValue}
 use Rattle.rv_decode.specs.Registers.{writes_csr}
@@ -68,7 +69,7 @@ kept_twice : (csrs : CsrValues) (number value : ℕ) → written csrs number (ke
 kept_twice csrs number value =
     elim (cases_Bool (number == 0x300)) [
       | inl e ↦ at 0x300 e (ap (λ v. record csrs { mstatus = v })
-          (mstatus_twice (bit 3 value) (bit 7 value) (omega arith) (omega arith)))
+          (mstatus_twice (bit_at value 3) (bit_at value 7) (omega arith) (omega arith)))
       | inr a ↦
           elim (cases_Bool (number == 0x304)) [
             | inl e ↦ at 0x304 e (ap (λ v. record csrs { mie = v }) (mie_twice value))
@@ -141,11 +142,11 @@ module _ (hart : HartState) where
   traps_is : (cause value : ℕ) → committed hart (traps hart cause value).effect ≡ (traps hart cause value).hart
   unfolding csrs_set
   traps_is cause value =
-      rw (mstatus_twice 0 (bit 3 hart.csrs.mstatus) (omega arith) (omega arith), low_twice hart.pc) refl
+      rw (mstatus_twice 0 (bit_at hart.csrs.mstatus 3) (omega arith) (omega arith), low_twice hart.pc) refl
 
   returns_is : committed hart (returns hart).effect ≡ (returns hart).hart
   unfolding csrs_set
-  returns_is = rw (mstatus_twice (bit 7 hart.csrs.mstatus) 1 (omega arith) (omega arith)) refl
+  returns_is = rw (mstatus_twice (bit_at hart.csrs.mstatus 7) 1 (omega arith) (omega arith)) refl
 
   csr_is : (reported : ℕ) (op : CsrOp) (rd source number : ℕ)
       → committed hart (csr_done hart reported op rd source number).effect

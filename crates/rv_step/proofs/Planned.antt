@@ -3,13 +3,11 @@ use Rattle.std.proofs.Common.{◌≡◌, ◌∙◌, ℕ, ◌+◌, ◌%◌, ◌^�
 use Rattle.std.proofs.Common.{ap}
 use Rattle.std.proofs.Common.{Option, Some, None, IfSome}
 use Rattle.std.specs.Prelude.{◌&&◌, not, if◌then◌else◌}
-use Rattle.std.proofs.lemmas.Bool.{and_parts, false≢true, eqb-true, not-false, not-true, leb-true, ltb-true}
+use Rattle.std.proofs.lemmas.Bool.{and_parts, false≢true, eqb-true, not-false, leb-true, ltb-true}
 use Rattle.tandem_base.specs.declared.extent.Extent.{Extent}
 use Rattle.elf_image.specs.Images.{Loaded, Holds, word_at}
-use Rattle.csr_file.specs.CsrFile.{is_implemented, is_read_only}
 use Rattle.rv_decode.specs.Decoding.{decoding}
 use Rattle.rv_decode.specs.Listing.{IsInsn}
-use Rattle.rv_decode.specs.Registers.{writes_csr}
 use Rattle.rv_decode.specs.declared.instruction.Insn.{Insn}
 use Rattle.rv_decode.specs.declared.instruction.Insn.TheVariants.{Lui, Auipc, Jal, Jalr, Branch, Load, Store, AluImm}
 use Rattle.rv_decode.specs.declared.instruction.Insn.TheVariants.{Alu, Fence, Ecall, Ebreak, Mret, Wfi, Csr, Lr, Sc}
@@ -34,21 +32,21 @@ use Rattle.rv_step.specs.Steps.{Doing, trap, plain, counter, load, store, lr, sc
 use Rattle.rv_step.proofs.Held.{has_bytes-each}
 
 -- the image has the bytes that are accessed
-abbrev pub IsHeld : Loaded → Doing → Type 0
-IsHeld image (trap cause value) = Unit {0}
-IsHeld image (plain insn) = Unit {0}
-IsHeld image (counter insn) = Unit {0}
-IsHeld image (load insn addr len) = is_held image addr len ≡ true
-IsHeld image (store insn addr len) = is_held image addr len ≡ true
-IsHeld image (lr insn addr len) = is_held image addr len ≡ true
-IsHeld image (sc insn addr len) = is_held image addr len ≡ true
-IsHeld image (amo insn addr len) = is_held image addr len ≡ true
+abbrev pub IsInImage : Loaded → Doing → Type 0
+IsInImage image (trap cause value) = Unit {0}
+IsInImage image (plain insn) = Unit {0}
+IsInImage image (counter insn) = Unit {0}
+IsInImage image (load insn addr len) = is_held image addr len ≡ true
+IsInImage image (store insn addr len) = is_held image addr len ≡ true
+IsInImage image (lr insn addr len) = is_held image addr len ≡ true
+IsInImage image (sc insn addr len) = is_held image addr len ≡ true
+IsInImage image (amo insn addr len) = is_held image addr len ≡ true
 
 -- all that a plan promises of what is to do
 pub record Promises (hart : HartState) (image : Loaded) (d : Doing) : Type 0 where
   pub fits : IfSome (planned_insn d) IsInsn
   pub kind : IsOfKind d
-  pub held : IsHeld image d
+  pub held : IsInImage image d
   pub aligned : IsAlignedAtomic d
   pub csr : IfSome (planned_insn d) HasCsr
   pub target : IfSome (planned_insn d) (IsTarget hart)
@@ -137,9 +135,7 @@ module _ (hart : HartState) (image : Loaded) (config : Config) where
       choice (λ d. Promises hart image d) (not (is_legal_csr op source number)) (illegal config word) _
       (λ _. traps _ _)
       (λ e.
-      let legal = and_parts (is_implemented number) (not (writes_csr op source && is_read_only number))
-      (not-false _ e) in
-      let csr : HasCsr (Csr op rd source number) = (legal.0, not-true _ legal.1) in
+      let csr : HasCsr (Csr op rd source number) = not-false _ e in
       choice (λ d. Promises hart image d) (is_counter number) (counter (Csr op rd source number))
       (plain (Csr op rd source number))
       (λ counts. record { fits = fits; kind = counts; held = tt; aligned = tt; csr = csr; target = tt })
@@ -207,7 +203,7 @@ held_bytes image extent held x covers =
     has_bytes-each image extent.addr extent.len x parts.1 (leb-true extent.addr x among.0)
     (ltb-true x (extent.addr + extent.len) among.1)
 
-pub extent_held : (image : Loaded) (w : What) → IsHeld image (doing_seen w) → IfSome (planned_extent w) (Holds image)
+pub extent_held : (image : Loaded) (w : What) → IsInImage image (doing_seen w) → IfSome (planned_extent w) (Holds image)
 extent_held image (what.Trap cause value) held = tt
 extent_held image (what.Plain insn) held = tt
 extent_held image (what.Counter insn) held = tt

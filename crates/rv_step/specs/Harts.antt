@@ -35,7 +35,7 @@ at_start number pc =
     record { pc = pc; registers = replicate 32 0; csrs = csrs_at_start number; retired = 0 }
 
 -- a hart after its pc, a register or a CSR is set from outside; a CSR keeps what a write keeps
-abbrev pub poked : HartState → Target → ℕ → HartState
-poked hart Pc value = record hart { pc = value }
-poked hart (X number) value = record hart { registers = with_x hart.registers number value }
-poked hart (Csr number) value = record hart { csrs = written hart.csrs number value }
+abbrev pub hart_poked : HartState → Target → ℕ → HartState
+hart_poked hart Pc value = record hart { pc = value }
+hart_poked hart (X number) value = record hart { registers = with_x hart.registers number value }
+hart_poked hart (Csr number) value = record hart { csrs = written hart.csrs number value }

@@ -1,6 +1,6 @@
 -- The results of the integer instructions (Unprivileged ISA 20191213), modulo 2 ^ 64.
 use Rattle.std.specs.Prelude.{int_lt, pos, ℕ, ◌+◌, ◌-◌, ◌*◌, ◌/◌, ◌%◌, ◌^◌, ◌==◌, ℤ, Bool, not, nat_lt, bit_and, bit_or}
-use Rattle.std.specs.Prelude.{bit_xor, if◌then◌else◌}
+use Rattle.std.specs.Prelude.{bit_xor}
 use Rattle.std.specs.Int.{w64, cast_unsigned, int_div_euclid}
 use Rattle.rv_decode.specs.Formats.{bit_of, twos_complement}
 use Rattle.tandem_base.specs.Signs.{represents, sign_extended}

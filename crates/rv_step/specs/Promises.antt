@@ -1,17 +1,15 @@
 -- What a plan says of the instruction that doesn't trap.
-use Rattle.std.specs.Prelude.{ℕ, ◌≡◌, ◌%◌, Bool, true, false, not, ◌&&◌, IfSome}
+use Rattle.std.specs.Prelude.{ℕ, ◌≡◌, ◌%◌, Bool, true, false, not, IfSome}
 use Rattle.std.specs.Prelude.{Option, Some, None, if◌then◌else◌}
 use Rattle.tandem_base.specs.declared.extent.Extent.{Extent}
-use Rattle.csr_file.specs.CsrFile.{is_implemented, is_read_only}
 use Rattle.rv_decode.specs.Kinds.{is_load, is_store, is_lr, is_sc, is_amo}
-use Rattle.rv_decode.specs.Registers.{writes_csr}
 use Rattle.rv_decode.specs.declared.instruction.Insn.{Insn}
 use Rattle.rv_decode.specs.declared.instruction.Insn.TheVariants.{Lui, Auipc, Jal, Jalr, Branch, Load, Store, AluImm}
 use Rattle.rv_decode.specs.declared.instruction.Insn.TheVariants.{Alu, Fence, Ecall, Ebreak, Mret, Wfi, Csr, Lr, Sc}
 use Rattle.rv_decode.specs.declared.instruction.Insn.TheVariants.{Amo}
 use Rattle.rv_step.specs.declared.plan.What.{What}
 use Rattle.rv_step.specs.declared.plan.What.TheVariants as what
-use Rattle.rv_step.specs.CsrUse.{is_counter}
+use Rattle.rv_step.specs.CsrUse.{is_legal_csr, is_counter}
 use Rattle.rv_step.specs.Harts.{HartState, x_of, plus}
 use Rattle.rv_step.specs.Integers.{is_taken, without_low_bit}
 use Rattle.rv_step.specs.Plans.{access_size}
@@ -93,10 +91,9 @@ IsAlignedAtomic (lr insn addr len) = addr % len ≡ 0
 IsAlignedAtomic (sc insn addr len) = addr % len ≡ 0
 IsAlignedAtomic (amo insn addr len) = addr % len ≡ 0
 
--- the number of a CSR instruction is one of the twelve, and not that of a read-only CSR where it writes
+-- a CSR instruction may use its CSR: it is there, and isn't a read-only one that is written
 abbrev pub HasCsr : Insn → Type 0
-HasCsr (Csr op rd source number) =
-    (is_implemented number ≡ true) × ((writes_csr op source && is_read_only number) ≡ false)
+HasCsr (Csr op rd source number) = is_legal_csr op source number ≡ true
 HasCsr _ = Unit {0}
 
 -- where a jump goes, and a branch that is taken

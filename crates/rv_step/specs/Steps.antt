@@ -2,8 +2,8 @@
 -- II, sections 3.2.2 and 3.2.3; the profile of traps is this project's own).
 use Rattle.std.specs.Prelude.{ℕ, ◌≡◌, ◌+◌, ◌%◌, ◌^◌, ◌==◌, List, [], ◌∷◌, length, slice_set, Option, Some, None}
 use Rattle.std.specs.Prelude.{MatchOption, if◌then◌else◌}
-use Rattle.std.specs.Int.{w64, cast_unsigned}
-use Rattle.tandem_base.specs.Bytes.{little_endian}
+use Rattle.std.specs.Int.{w64, cast_unsigned, from_le_bytes}
+use Rattle.tandem_base.specs.Bytes.{padded}
 use Rattle.tandem_base.specs.Signs.{sign_extended}
 use Rattle.csr_file.specs.CsrFile.{CsrValues, kept, written, trapped, returned}
 use Rattle.tandem_base.specs.CsrNumbers as csr
@@ -115,9 +115,9 @@ csr_done hart reported op rd source number =
     let done = writes_rd hart (next_of hart) rd old in
     if writes_csr op source then sets_csr done number (new_csr op old (operand_of hart op source)) else done
 
--- the number that was loaded
+-- the number that was loaded, of up to eight bytes, the lowest first
 abbrev pub number_loaded : Outside → ℕ
-number_loaded outside = little_endian (bytes_of outside.load)
+number_loaded outside = from_le_bytes w64 (padded (bytes_of outside.load))
 
 -- what an instruction does that raises no trap of its own beside ECALL and EBREAK
 abbrev pub executed : HartState → Outside → Insn → Done

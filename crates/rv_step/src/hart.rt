@@ -1,7 +1,7 @@
 //! A hart: its pc, its registers and its CSRs.
 
 ghost use Rattle.std.specs.Prelude.{◌≡◌, ◌%◌, ◌<◌, slice_index};
-ghost use Rattle.rv_step.specs.Harts.{at_start, next_of, poked, x_of};
+ghost use Rattle.rv_step.specs.Harts.{at_start, next_of, hart_poked, x_of};
 ghost use Rattle.msg_frames.specs.Frames.{FitsTarget};
 
 use csr_file::Csrs;
@@ -62,7 +62,7 @@ impl Hart {
     /// Sets the pc, a register or a CSR from outside. A CSR keeps what a write of it keeps.
     pub fn poke(&mut self, poke: &Poke)
         requires { FitsTarget poke.now.target poke.now.value }
-        ensures { self.new ≡ poked self.old poke.now.target poke.now.value }
+        ensures { self.new ≡ hart_poked self.old poke.now.target poke.now.value }
     {
         match poke.target {
             Target::Pc => self.pc = poke.value,

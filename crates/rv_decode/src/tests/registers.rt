@@ -2,8 +2,8 @@
 
 use crate::registers::{
     Register, address_source, carried_to_csr, carried_to_register, carries, control_sources,
-    csr_destination, csr_of, data_source, destination, from_register, is_address, is_control,
-    is_csr, is_data, is_x, rd_of, sets, writes_csr,
+    csr_destination, data_source, destination, from_register, is_address, is_control, is_csr,
+    is_data, is_x, named_csr, named_rd, sets, writes_csr,
 };
 use crate::{BranchOp, CsrOp, Insn, RegOp};
 
@@ -16,7 +16,7 @@ fn x0_never_counts(rt: HostRuntime) {
         rs2: 3,
     };
     assert!(rt; !is_x(0, Register::X(0)) && is_x(3, Register::X(3)));
-    assert!(rt; rd_of(&insn) == Some(Register::X(0)));
+    assert!(rt; named_rd(&insn) == Some(Register::X(0)));
     assert!(rt; destination(&insn, false).is_none());
     assert!(rt; !sets(&insn, false, Register::X(0)));
     assert!(rt; !carries(&insn, Register::X(3), Register::X(0)));
@@ -45,7 +45,9 @@ fn a_csr_instruction_carries_its_register_to_the_csr_and_the_csr_to_rd(rt: HostR
         number: 0x340,
     };
     assert!(rt; writes_csr(CsrOp::Rs, 6) && from_register(CsrOp::Rs));
-    assert!(rt; csr_of(&insn) == Some(Register::Csr(0x340)) && is_csr(0x340, Register::Csr(0x340)));
+    assert!(rt;
+        named_csr(&insn) == Some(Register::Csr(0x340)) && is_csr(0x340, Register::Csr(0x340))
+    );
     assert!(rt; csr_destination(&insn) == Some(0x340));
     assert!(rt; carried_to_csr(&insn) == Some(6));
     assert!(rt; carried_to_register(&insn).0 == Some(Register::Csr(0x340)));
