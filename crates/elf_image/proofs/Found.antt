@@ -8,7 +8,7 @@ use Rattle.std.proofs.lemmas.Bool.{and_from, and_parts, cases_lt, le-leb, lt-ltb
 use Rattle.std.proofs.lemmas.Bool.{cond-false, cond_both, both_ways}
 use Rattle.std.proofs.lemmas.List.Elements.{All-tail, All-head}
 use Rattle.elf_image.specs.declared.range.Range.{Range}
-use Rattle.elf_image.specs.Images.{Loaded, loaded_of, byte_of, segment_byte, ram_byte, Segment, Span}
+use Rattle.elf_image.specs.Images.{Loaded, loaded_of, image_byte, segment_byte, ram_byte, Segment, Span}
 use Rattle.tandem_base.specs.Extents.{is_among}
 use Rattle.elf_image.specs.Images.{word_at}
 use Rattle.elf_image.specs.Tables.{EndsBefore, range_holds, segment_in, span_in, image_in, range_byte, range_word}
@@ -83,26 +83,26 @@ ram_byte-none (a ∷ rest) x outside =
     (λ yes. absurd (both_ways _ (All-head (λ r. range_holds x r ≡ false) a rest outside) yes))
     (λ _. ram_byte-none rest x (All-tail (λ r. range_holds x r ≡ false) a rest outside))
 
-pub byte_of-segment : (entry : ℕ) (segments rams : List Range) (file : List ℕ) (r : Range) (x : ℕ)
+pub image_byte-segment : (entry : ℕ) (segments rams : List Range) (file : List ℕ) (r : Range) (x : ℕ)
     → AllPairs EndsBefore segments → Contains segments r → range_holds x r ≡ true
-    → byte_of (image_in entry segments rams file) x ≡ Some (slice_index (segment_in file r).bytes (x - r.base))
-unfolding byte_of
-byte_of-segment entry segments rams file r x apart among held =
+    → image_byte (image_in entry segments rams file) x ≡ Some (slice_index (segment_in file r).bytes (x - r.base))
+unfolding image_byte
+image_byte-segment entry segments rams file r x apart among held =
     ap (λ o. option_or o (ram_byte (map span_in rams) x)) (segment_byte-held file segments r x apart among held)
 
-pub byte_of-ram : (entry : ℕ) (segments rams : List Range) (file : List ℕ) (r : Range) (x : ℕ)
+pub image_byte-ram : (entry : ℕ) (segments rams : List Range) (file : List ℕ) (r : Range) (x : ℕ)
     → All (λ r. range_holds x r ≡ false) segments → Contains rams r → range_holds x r ≡ true
-    → byte_of (image_in entry segments rams file) x ≡ Some 0
-unfolding byte_of
-byte_of-ram entry segments rams file r x outside among held =
+    → image_byte (image_in entry segments rams file) x ≡ Some 0
+unfolding image_byte
+image_byte-ram entry segments rams file r x outside among held =
     ap (λ o. option_or o (ram_byte (map span_in rams) x)) (segment_byte-none file segments x outside)
     ∙ ram_byte-held rams r x among held
 
-pub byte_of-none : (entry : ℕ) (segments rams : List Range) (file : List ℕ) (x : ℕ)
+pub image_byte-none : (entry : ℕ) (segments rams : List Range) (file : List ℕ) (x : ℕ)
     → All (λ r. range_holds x r ≡ false) segments → All (λ r. range_holds x r ≡ false) rams
-    → byte_of (image_in entry segments rams file) x ≡ None
-unfolding byte_of
-byte_of-none entry segments rams file x outside outside' =
+    → image_byte (image_in entry segments rams file) x ≡ None
+unfolding image_byte
+image_byte-none entry segments rams file x outside outside' =
     ap (λ o. option_or o (ram_byte (map span_in rams) x)) (segment_byte-none file segments x outside)
     ∙ ram_byte-none rams x outside'
 
@@ -125,7 +125,8 @@ held_in_segment entry segments rams file r x n apart among held rest =
     record {
       some = omega (arith, holds_end r x held);
       each = λ k below.
-          rw (byte_of-segment entry segments rams file r (x + k) apart among (holds_on r x n k held rest below)) refl;
+          rw (image_byte-segment entry segments rams file r (x + k) apart among
+          (holds_on r x n k held rest below)) refl;
     }
 
 some_or : (o p : Option ℕ) → p ≡ Some 0 → IsSome (option_or o p)
@@ -135,7 +136,7 @@ some_or None p e = rw e refl
 pub held_in_ram : (entry : ℕ) (segments rams : List Range) (file : List ℕ) (r : Range) (x n : ℕ)
     → Contains rams r → range_holds x r ≡ true → x + n ≡ r.base + r.size
     → AreHeld (loaded_of (image_in entry segments rams file)) x n
-unfolding byte_of
+unfolding image_byte
 held_in_ram entry segments rams file r x n among held rest =
     record {
       some = omega (arith, holds_end r x held);
@@ -164,14 +165,15 @@ pub word_at-segment : (entry : ℕ) (segments rams : List Range) (file : List �
     → word_at (loaded_of (image_in entry segments rams file)) x ≡ range_word file r x
 unfolding word_at
 word_at-segment entry segments rams file r x apart among held room top =
-    let at : (k : ℕ) → k < 4 → byte_of (image_in entry segments rams file) (x + k) ≡ Some (range_byte file r (x + k)) =
+    let at : (k : ℕ) → k < 4
+    → image_byte (image_in entry segments rams file) (x + k) ≡ Some (range_byte file r (x + k)) =
     λ k below.
-    byte_of-segment entry segments rams file r (x + k) apart among
+    image_byte-segment entry segments rams file r (x + k) apart among
     (and_from _ _ (le-leb r.base (x + k) (omega (arith, holds_base r x held)))
     (lt-ltb (x + k) (r.base + r.size) (omega arith))) in
     rw (
       le-leb x (2 ^ 64 - 4) top,
-      byte_of-segment entry segments rams file r x apart among held,
+      image_byte-segment entry segments rams file r x apart among held,
       at 1 (omega arith),
       at 2 (omega arith),
       at 3 (omega arith),

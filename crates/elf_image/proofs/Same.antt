@@ -9,7 +9,7 @@ use Rattle.elf_image.specs.declared.fault.ImageFault.{ImageFault}
 use Rattle.elf_image.specs.Elf.{elf_of, header_fault, loadable, loads_fault, loads_image, overlap_fault, segment_fault}
 use Rattle.elf_image.specs.Faults.{file_fault, limit_fault}
 use Rattle.tandem_base.specs.FirstFault.{passed, unless}
-use Rattle.elf_image.specs.Images.{Loaded, loaded_of, Segment, Span, byte_of, segment_byte, ram_byte}
+use Rattle.elf_image.specs.Images.{Loaded, loaded_of, Segment, Span, image_byte, segment_byte, ram_byte}
 use Rattle.elf_image.specs.Rams.{span_of}
 use Rattle.elf_image.specs.Tables.{image_in, image_over, segment_in, span_in}
 
@@ -25,7 +25,7 @@ same_loaded entry bytes bytes' same = ap (looked_up entry) (fun_ext same)
 pub same_over : (entry : ℕ) (segments table : List Range) (file file' : List ℕ) (rams : List Ram) → file ≡ file'
     → ((x : ℕ) → ram_byte (map span_in table) x ≡ ram_byte (map span_of rams) x)
     → loaded_of (image_in entry segments table file) ≡ loaded_of (image_over entry segments file' rams)
-unfolding byte_of
+unfolding image_byte
 same_over entry segments table file file' rams copied same =
     same_loaded entry _ _
     (λ x.
@@ -37,7 +37,7 @@ pub same_segments : (entry : ℕ) (table segments : List Segment) (rams : List S
     → ((x : ℕ) → segment_byte table x ≡ segment_byte segments x)
     → loaded_of (record { entry = entry; segments = table; rams = rams })
     ≡ loaded_of (record { entry = entry; segments = segments; rams = rams })
-unfolding byte_of
+unfolding image_byte
 same_segments entry table segments rams same =
     same_loaded entry _ _ (λ x. ap (λ o. option_or o (ram_byte rams x)) (same x))
 

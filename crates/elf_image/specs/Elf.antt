@@ -14,8 +14,8 @@ use Rattle.tandem_base.specs.Fields.{u16_at, u32_at, u64_at}
 use Rattle.tandem_base.specs.FirstFault.{◌or_else◌, unless}
 
 -- where a run begins: e_entry of the file header
-abbrev pub entry_of : List ℕ → ℕ
-entry_of bytes = u64_at 24 bytes
+abbrev pub entry_address : List ℕ → ℕ
+entry_address bytes = u64_at 24 bytes
 
 -- where the program header table begins: e_phoff
 abbrev pub table_offset : List ℕ → ℕ
@@ -49,7 +49,7 @@ header_fault bytes =
     else if not (has_class bytes) then Some fault.Class
     else if not (u16_at 16 bytes == 2) then Some fault.Kind
     else if not (u16_at 18 bytes == 243) then Some fault.Machine
-    else if not (entry_of bytes % 4 == 0) then Some (fault.Headers 24)
+    else if not (entry_address bytes % 4 == 0) then Some (fault.Headers 24)
     else if not (has_entry_size bytes) then Some (fault.Headers 54)
     else if not (has_table bytes) then Some (fault.Headers 32)
     else None
@@ -112,7 +112,8 @@ loads_fault file_len headers rams =
 -- the image of the segments to be loaded from these bytes, and RAM
 abbrev pub loads_image : List ℕ → List ProgramHeader → List Ram → Loaded
 loads_image bytes headers rams =
-    loaded_of (record { entry = entry_of bytes; segments = map (segment_of bytes) headers; rams = map span_of rams })
+    loaded_of
+    (record { entry = entry_address bytes; segments = map (segment_of bytes) headers; rams = map span_of rams })
 
 -- an ELF64 file and RAM: the image, or the first fault
 abbrev pub elf_of : List ℕ → List Ram → Result Loaded ImageFault

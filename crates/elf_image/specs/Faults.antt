@@ -4,13 +4,12 @@ use Rattle.std.specs.Prelude.{Ok, Err}
 use Rattle.elf_image.specs.declared.fault.ImageFault.{ImageFault}
 use Rattle.elf_image.specs.declared.fault.ImageFault.TheVariants as fault
 use Rattle.elf_image.specs.declared.fault.TooLarge.TheVariants as limit
-use Rattle.elf_image.specs.declared.limits.TheConstants.{MOST_FILE_BYTES}
 use Rattle.elf_image.specs.Images.{ImageOf, Loaded, loaded_of}
 
--- a file of too many bytes: it is read up to one byte past the limit
+-- a file of more than 2^28 bytes: it is read up to one byte past that
 abbrev pub file_fault : List ℕ → Option ImageFault
 file_fault bytes =
-    if nat_lt MOST_FILE_BYTES (length bytes) then Some (fault.TooLarge (limit.File (MOST_FILE_BYTES + 1))) else None
+    if nat_lt (2 ^ 28) (length bytes) then Some (fault.TooLarge (limit.File (2 ^ 28 + 1))) else None
 
 -- segments and RAM: at most 64 ranges, of at most 2^40 bytes together
 abbrev pub limit_fault : ℕ → ℕ → Option ImageFault

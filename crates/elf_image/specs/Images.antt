@@ -1,6 +1,6 @@
 -- What an image is: the address at which a run begins, and the byte at each address before it.
 use Rattle.std.specs.Prelude.{ℕ, ◌+◌, ◌-◌, ◌^◌, nat_le, if◌then◌else◌, List, [], ◌∷◌}
-use Rattle.std.specs.Prelude.{slice_index, Option, None, Some, IsSome}
+use Rattle.std.specs.Prelude.{slice_index, unwrap_or, Option, None, Some, IsSome}
 use Rattle.std.specs.List.{find}
 use Rattle.std.specs.Option.{option_map, option_or}
 use Rattle.std.specs.Int.{w32, from_le_bytes}
@@ -34,8 +34,8 @@ abbrev pub ram_byte : List Span → ℕ → Option ℕ
 ram_byte rams x = option_map (λ _. 0) (find (λ r. is_among r.base r.size x) rams)
 
 -- the byte at x, None where no range holds x: a segment wins over RAM
-unfoldable pub byte_of : ImageOf → ℕ → Option ℕ
-byte_of image x = option_or (segment_byte image.segments x) (ram_byte image.rams x)
+unfoldable pub image_byte : ImageOf → ℕ → Option ℕ
+image_byte image x = option_or (segment_byte image.segments x) (ram_byte image.rams x)
 
 -- what can be looked up in an image: where a run begins, and the byte at each address, None where there is none
 pub record Loaded : Type 0 where
@@ -44,7 +44,11 @@ pub record Loaded : Type 0 where
 
 -- what can be looked up in these ranges
 abbrev pub loaded_of : ImageOf → Loaded
-loaded_of image = record { entry = image.entry; byte_at = byte_of image }
+loaded_of image = record { entry = image.entry; byte_at = image_byte image }
+
+-- the initial value of the byte at x: that of the image, or 0 where it has none
+abbrev pub initial_byte : Loaded → ℕ → ℕ
+initial_byte image x = unwrap_or (image.byte_at x) 0
 
 -- the number in four bytes, lowest first
 abbrev pub word_of_bytes : Option ℕ → Option ℕ → Option ℕ → Option ℕ → Option ℕ

@@ -2,7 +2,7 @@
 
 ghost use Rattle.std.specs.Prelude.{◌≡◌, ◌%◌, ◌<◌, ◌≤◌, length};
 ghost use Rattle.std.specs.List.{All};
-ghost use Rattle.elf_image.specs.Elf.{entry_of, loads_fault, loads_image};
+ghost use Rattle.elf_image.specs.Elf.{entry_address, loads_fault, loads_image};
 ghost use Rattle.tandem_base.specs.FirstFault.{unless};
 ghost use Rattle.elf_image.specs.Faults.{Reads};
 
@@ -43,7 +43,7 @@ fn load(
     rams: &[Ram],
 ) -> Result<Image, ImageFault>
     requires whole { 64 ≤ length bytes.now }
-    requires aligned { entry_of bytes.now % 4 ≡ 0 }
+    requires aligned { entry_address bytes.now % 4 ≡ 0 }
     requires sized { All (λ load. 0 < load.size) loads.now }
     ensures { Reads result
         (unless (loads_fault (length bytes.now) loads.now rams.now) (loads_image bytes.now loads.now rams.now)) }

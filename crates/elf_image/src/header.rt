@@ -1,9 +1,8 @@
 //! The file header of an ELF64 file.
 
-ghost use Rattle.std.specs.Prelude.{◌≡◌, ◌%◌, ◌≤◌, true, false, OnOk, IfOk, length, map};
+ghost use Rattle.std.specs.Prelude.{◌≡◌, ◌%◌, ◌^◌, ◌≤◌, true, false, OnOk, IfOk, length, map};
 ghost use Rattle.tandem_base.specs.FirstFault.{passed};
-ghost use Rattle.elf_image.specs.declared.limits.TheConstants.{MOST_FILE_BYTES};
-ghost use Rattle.elf_image.specs.Elf.{entry_of, table_offset, header_count, has_class, has_entry_size, has_table};
+ghost use Rattle.elf_image.specs.Elf.{entry_address, table_offset, header_count, has_class, has_entry_size, has_table};
 ghost use Rattle.elf_image.specs.Elf.{header_fault, loadable};
 
 use crate::fault::ImageFault;
@@ -21,11 +20,11 @@ pub const ENTRY_SIZE: u64 = 56;
 /// The fault of the file header.
 #[tactic(auto, unfolding(crate::specs::Elf::header_fault))]
 pub fn check_header(bytes: &[u8]) -> Result<(), ImageFault>
-    requires { length bytes.now ≤ MOST_FILE_BYTES }
+    requires { length bytes.now ≤ 2 ^ 28 }
     ensures fault { result ≡ passed (header_fault bytes.now) }
     ensures whole { OnOk result (64 ≤ length bytes.now) }
     ensures table { OnOk result (has_table bytes.now ≡ true) }
-    ensures aligned { OnOk result (entry_of bytes.now % 4 ≡ 0) }
+    ensures aligned { OnOk result (entry_address bytes.now % 4 ≡ 0) }
 {
     if bytes.len() < 64 || !bytes.starts_with(b"\x7fELF") {
         return Err(ImageFault::NotElf);
@@ -54,7 +53,7 @@ pub fn check_header(bytes: &[u8]) -> Result<(), ImageFault>
 /// The address at which a run begins.
 pub fn entry(bytes: &[u8]) -> u64
     requires { 64 ≤ length bytes.now }
-    ensures { result ≡ entry_of bytes.now }
+    ensures { result ≡ entry_address bytes.now }
 {
     u64_at(24, bytes)
 }

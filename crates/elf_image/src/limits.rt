@@ -12,10 +12,10 @@ use crate::ram::Ram;
 pub const MOST_FILE_BYTES: usize = 1 << 28;
 
 /// The most segments and RAM ranges that an image may have.
-pub const MOST_RANGES: u64 = 64;
+const MOST_RANGES: u64 = 64;
 
 /// The most bytes that they may have together: 2^40.
-pub const MOST_BYTES: u128 = 1 << 40;
+const MOST_BYTES: u128 = 1 << 40;
 
 /// The most bytes of a file are 2^28: a law, with nothing to do.
 pub fn most_file_bytes_has_its_number()
@@ -25,7 +25,7 @@ pub fn most_file_bytes_has_its_number()
 /// The fault of a file that is too long.
 pub fn check_file(bytes: &[u8]) -> Result<(), ImageFault>
     ensures fault { result ≡ passed (file_fault bytes.now) }
-    ensures short { OnOk result (length bytes.now ≤ MOST_FILE_BYTES) }
+    ensures short { OnOk result (length bytes.now ≤ 2 ^ 28) }
 {
     if bytes.len() > MOST_FILE_BYTES {
         let read = MOST_FILE_BYTES as u64 + 1;

@@ -23,12 +23,12 @@ use Rattle.msg_frames.specs.declared.message.Body.TheVariants as body
 use Rattle.msg_frames.specs.declared.message.Message.{Message}
 use Rattle.msg_frames.specs.declared.kinds.Kind.{Kind}
 use Rattle.msg_frames.specs.declared.kinds.Kind.TheVariants as kind
-use Rattle.tandem_base.specs.Fields.{byte_at, u16_at, u64_at}
+use Rattle.tandem_base.specs.Fields.{u8_at, u16_at, u64_at}
 use Rattle.msg_frames.specs.Kinds.{code_of, kind_of, kind_coded, has_length}
 use Rattle.msg_frames.specs.Frames.{body_bytes, piece_bytes, head_bytes, frame, FitsBody, BodyInRange, FitsPiece}
 use Rattle.msg_frames.specs.Frames.{PieceInRange, is_poked_csr}
-use Rattle.msg_frames.specs.Reading.{rule, zeros, is_stray, unmasked_zeros, field_fault, piece_fault, head_in}
-use Rattle.msg_frames.specs.Reading.{piece_in, body_in, message_in, is_whole, reading_of, reading}
+use Rattle.msg_frames.specs.Reading.{rule, zeros, is_stray_byte, unmasked_zeros, field_fault, piece_fault, head_in}
+use Rattle.msg_frames.specs.Reading.{piece_in, body_in, message_in, has_stated_length, reading_of, reading}
 
 -- ---- what is whole, coded and checked is read
 
@@ -49,12 +49,12 @@ code_coded kind.End = refl
 
 pub reading_by : (which : Kind) (bytes : List ℕ) (message : Message) → length bytes ≡ u16_at 0 bytes + 2
     → 18 ≤ u16_at 0 bytes → u16_at 0 bytes ≤ 512
-    → byte_at 2 bytes ≡ code_of which → has_length which (u16_at 0 bytes) ≡ true → field_fault which bytes ≡ None
+    → u8_at 2 bytes ≡ code_of which → has_length which (u16_at 0 bytes) ≡ true → field_fault which bytes ≡ None
     → message_in which bytes ≡ message
     → reading bytes ≡ Ok message
 unfolding reading reading_of
 reading_by which bytes message size low high code allowed checked value =
-    cond-true (is_whole bytes) (reading_of (kind_coded (byte_at 2 bytes)) bytes) _ (whole_from (length bytes)
+    cond-true (has_stated_length bytes) (reading_of (kind_coded (u8_at 2 bytes)) bytes) _ (whole_from (length bytes)
     (u16_at 0 bytes) size low high)
     ∙ ap (λ (o : Option Kind). reading_of o bytes) (ap kind_coded code ∙ code_coded which)
     ∙ cond-true (has_length which (u16_at 0 bytes)) (unless (field_fault which bytes)
@@ -204,7 +204,7 @@ pub unmasked_from : (mask k : ℕ) (bytes : List ℕ) → ((i : ℕ) → i < len
     → get_or bytes i 0 ≡ 0) → unmasked_zeros mask k bytes ≡ None
 unmasked_from mask k [] h = refl
 unmasked_from mask k (byte ∷ bytes) h =
-    cond-false (is_stray mask k byte) _ (unmasked_zeros mask (k + 1) bytes) (stray_from (bit_at mask k) byte
+    cond-false (is_stray_byte mask k byte) _ (unmasked_zeros mask (k + 1) bytes) (stray_from (bit_at mask k) byte
     (λ outside. h 0 (omega arith) (rw add-zero outside)))
     ∙ unmasked_from mask (k + 1) bytes (λ i below outside. let same : k + suc i ≡ k + 1 + i = omega arith in
     h (suc i) (omega arith) (rw same outside))

@@ -4,7 +4,7 @@ use Rattle.std.proofs.Common.{refl, sym, ◌∙◌, arith, take-append-drop, dro
 use Rattle.std.proofs.lemmas.List.{drop_more, get_or-drop}
 use Rattle.std.proofs.lemmas.Nat.{le_bytes_2, le_bytes_4, le_bytes_8}
 use Rattle.std.specs.Int.{w16, w32, w64, to_le_bytes}
-use Rattle.tandem_base.specs.Fields.{byte_at, u16_at, u32_at, u64_at}
+use Rattle.tandem_base.specs.Fields.{u8_at, u16_at, u32_at, u64_at}
 use Rattle.msg_frames.specs.Frames.{AreBytes}
 
 pub AreBytes-take : (n : ℕ) (bytes : List ℕ) → AreBytes bytes → AreBytes (take n bytes)
@@ -24,7 +24,7 @@ split_off bytes piece rest at n next e p r =
     sym (take-append-drop n (drop at bytes)) ∙ rw (p, drop-drop n at bytes, e, r) refl
 
 pub byte_off : (bytes rest : List ℕ) (at next : ℕ) → next ≤ length bytes → at + 1 ≡ next → drop next bytes ≡ rest
-    → drop at bytes ≡ byte_at at bytes ∷ rest
+    → drop at bytes ≡ u8_at at bytes ∷ rest
 byte_off bytes rest at next inside e r =
     let below : at < length bytes = omega arith in drop_more bytes at 0 below ∙ rw (e, r) refl
 
@@ -54,7 +54,7 @@ u64_off bytes rest at next ranges inside e r = split_off bytes _ rest at 8 next 
     (AreBytes-take 8 _ (AreBytes-drop at bytes ranges)) refl)) r
 
 -- the ranges of what is read
-pub byte_below : (bytes : List ℕ) (at : ℕ) → AreBytes bytes → byte_at at bytes < 2 ^ 8
+pub byte_below : (bytes : List ℕ) (at : ℕ) → AreBytes bytes → u8_at at bytes < 2 ^ 8
 byte_below bytes at ranges = ranges at
 
 pub u16_below : (bytes : List ℕ) (at : ℕ) → AreBytes bytes → u16_at at bytes < 2 ^ 16

@@ -11,10 +11,10 @@ use Rattle.std.proofs.lemmas.List.{nil_from_length}
 use Rattle.msg_frames.specs.declared.message.RdValue.{RdValue}
 use Rattle.msg_frames.specs.declared.message.Form.TheVariants as form
 use Rattle.msg_frames.specs.declared.kinds.Kind.TheVariants as kind
-use Rattle.tandem_base.specs.Fields.{byte_at, u16_at, u64_at}
+use Rattle.tandem_base.specs.Fields.{u8_at, u16_at, u64_at}
 use Rattle.msg_frames.specs.Kinds.{has_length}
 use Rattle.msg_frames.specs.Frames.{AreBytes, csr_bytes, flag, rd_number, rd_value, CsrInRange}
-use Rattle.msg_frames.specs.Reading.{rule, reserved, has_trap, has_rd, cause_fault, rd_fault, value_fault}
+use Rattle.msg_frames.specs.Reading.{rule, reserved_fault, has_trap, has_rd, cause_fault, rd_fault, value_fault}
 use Rattle.msg_frames.specs.Reading.{retire_fault, csrs_in}
 use Rattle.msg_frames.proofs.Bytes.{AreBytes-drop, byte_off, u16_off, u32_off, u64_off, byte_below, u16_below}
 use Rattle.msg_frames.proofs.Bytes.{u32_below, u64_below}
@@ -90,35 +90,35 @@ cause_holds : (trapped : Bool) (cause : ℕ) → cause < 2 ^ 8
 cause_holds true cause h = h
 cause_holds false cause h = tt
 
-cause_found : (bytes : List ℕ) → cause_fault bytes ≡ None → has_trap bytes ≡ false → byte_at 41 bytes ≡ 0
+cause_found : (bytes : List ℕ) → cause_fault bytes ≡ None → has_trap bytes ≡ false → u8_at 41 bytes ≡ 0
 unfolding cause_fault
-cause_found bytes e without = elim (chosen (has_trap bytes) None (reserved 41 1 bytes) None e) [
+cause_found bytes e without = elim (chosen (has_trap bytes) None (reserved_fault 41 1 bytes) None e) [
   | inl way ↦ cc
   | inr way ↦ reserved_byte 41 bytes way.1
 ]
 
-number_found : (bytes : List ℕ) → rd_fault bytes ≡ None → has_rd bytes ≡ false → byte_at 42 bytes ≡ 0
+number_found : (bytes : List ℕ) → rd_fault bytes ≡ None → has_rd bytes ≡ false → u8_at 42 bytes ≡ 0
 unfolding rd_fault
-number_found bytes e without = elim (chosen (has_rd bytes) (rule form.Field 42 (nat_le 1 (byte_at 42 bytes) && nat_le
-    (byte_at 42 bytes) 31)) (reserved 42 1 bytes) None e) [
+number_found bytes e without = elim (chosen (has_rd bytes) (rule form.Field 42 (nat_le 1 (u8_at 42 bytes) && nat_le
+    (u8_at 42 bytes) 31)) (reserved_fault 42 1 bytes) None e) [
       | inl way ↦ cc
       | inr way ↦ reserved_byte 42 bytes way.1
     ]
 
 rd_found : (bytes : List ℕ) → rd_fault bytes ≡ None → has_rd bytes ≡ true
-    → (1 ≤ byte_at 42 bytes) × (byte_at 42 bytes ≤ 31)
+    → (1 ≤ u8_at 42 bytes) × (u8_at 42 bytes ≤ 31)
 unfolding rd_fault
-rd_found bytes e with_rd = elim (chosen (has_rd bytes) (rule form.Field 42 (nat_le 1 (byte_at 42 bytes) && nat_le
-    (byte_at 42 bytes) 31)) (reserved 42 1 bytes) None e) [
-      | inl way ↦ let parts = and_parts (nat_le 1 (byte_at 42 bytes)) (nat_le (byte_at 42 bytes) 31)
+rd_found bytes e with_rd = elim (chosen (has_rd bytes) (rule form.Field 42 (nat_le 1 (u8_at 42 bytes) && nat_le
+    (u8_at 42 bytes) 31)) (reserved_fault 42 1 bytes) None e) [
+      | inl way ↦ let parts = and_parts (nat_le 1 (u8_at 42 bytes)) (nat_le (u8_at 42 bytes) 31)
           (rule_ok form.Field 42 _ way.1) in
-          (leb-true 1 (byte_at 42 bytes) parts.0, leb-true (byte_at 42 bytes) 31 parts.1)
+          (leb-true 1 (u8_at 42 bytes) parts.0, leb-true (u8_at 42 bytes) 31 parts.1)
       | inr way ↦ cc
     ]
 
 value_found : (bytes : List ℕ) → value_fault bytes ≡ None → has_rd bytes ≡ false → u64_at 44 bytes ≡ 0
 unfolding value_fault
-value_found bytes e without = elim (chosen (has_rd bytes) None (reserved 44 8 bytes) None e) [
+value_found bytes e without = elim (chosen (has_rd bytes) None (reserved_fault 44 8 bytes) None e) [
   | inl way ↦ cc
   | inr way ↦ reserved_u64 44 bytes way.1
 ]
@@ -142,35 +142,35 @@ pub found_retire : (bytes : List ℕ) → AreBytes bytes → length bytes ≡ u1
     → has_length kind.Retire (u16_at 0 bytes) ≡ true
     → retire_fault bytes ≡ None → Found kind.Retire bytes
 found_retire bytes ranges len kind_length e =
-    let flags = none_else (rule form.Reserved 40 (nat_lt (byte_at 40 bytes) 4)) _ e in
+    let flags = none_else (rule form.Reserved 40 (nat_lt (u8_at 40 bytes) 4)) _ e in
     let cause = none_else (cause_fault bytes) _ flags.1 in
     let rd = none_else (rd_fault bytes) _ cause.1 in
-    let count = none_else (rule form.Field 43 (50 + 10 * byte_at 43 bytes == u16_at 0 bytes))
+    let count = none_else (rule form.Field 43 (50 + 10 * u8_at 43 bytes == u16_at 0 bytes))
     (value_fault bytes) rd.1 in
     let bounds = retire_high (u16_at 0 bytes) kind_length in
-    let many : 50 + 10 * byte_at 43 bytes ≡ u16_at 0 bytes = eqb-true (50 + 10 * byte_at 43 bytes) (u16_at 0 bytes)
+    let many : 50 + 10 * u8_at 43 bytes ≡ u16_at 0 bytes = eqb-true (50 + 10 * u8_at 43 bytes) (u16_at 0 bytes)
     (rule_ok form.Field 43 _ count.0) in
     let room : 52 ≤ length bytes = omega arith in
-    let rest : length (drop 52 bytes) ≡ 10 * byte_at 43 bytes = length-drop 52 bytes ∙ omega arith in
+    let rest : length (drop 52 bytes) ≡ 10 * u8_at 43 bytes = length-drop 52 bytes ∙ omega arith in
     record {
       spelled = u64_off bytes _ 20 28 ranges (omega arith) refl (u32_off bytes _ 28 32 ranges (omega arith) refl
           (u64_off bytes _ 32 40 ranges (omega arith) refl
           (byte_off bytes _ 40 41 (omega arith) refl (byte_off bytes _ 41 42 (omega arith) refl
           (byte_off bytes _ 42 43 (omega arith) refl
           (byte_off bytes _ 43 44 (omega arith) refl (u64_off bytes _ 44 52 ranges room refl
-          (csrs_spelled (byte_at 43 bytes) (drop 52 bytes) (AreBytes-drop 52 bytes ranges) rest))))))))
+          (csrs_spelled (u8_at 43 bytes) (drop 52 bytes) (AreBytes-drop 52 bytes ranges) rest))))))))
           ∙ retire_same _ _ _ _ _ _ _ _ _ _ _ _ _ _
-          (flags_are (byte_at 40 bytes) (byte_at 41 bytes) (record {
-            number = byte_at 42 bytes;
+          (flags_are (u8_at 40 bytes) (u8_at 41 bytes) (record {
+            number = u8_at 42 bytes;
             value =
                 u64_at 44 bytes;
-          }) (ltb-true (byte_at 40 bytes) 4 (rule_ok form.Reserved 40 _ flags.0)))
-          (cause_is (has_trap bytes) (byte_at 41 bytes) (cause_found bytes cause.0))
-          (number_is (has_rd bytes) (byte_at 42 bytes) (u64_at 44 bytes) (number_found bytes rd.0))
-          (sym (length-csrs_in (byte_at 43 bytes) (drop 52 bytes)))
-          (value_is (has_rd bytes) (byte_at 42 bytes) (u64_at 44 bytes) (value_found bytes count.1));
+          }) (ltb-true (u8_at 40 bytes) 4 (rule_ok form.Reserved 40 _ flags.0)))
+          (cause_is (has_trap bytes) (u8_at 41 bytes) (cause_found bytes cause.0))
+          (number_is (has_rd bytes) (u8_at 42 bytes) (u64_at 44 bytes) (number_found bytes rd.0))
+          (sym (length-csrs_in (u8_at 43 bytes) (drop 52 bytes)))
+          (value_is (has_rd bytes) (u8_at 42 bytes) (u64_at 44 bytes) (value_found bytes count.1));
       fits = (
-        rd_fits (has_rd bytes) (byte_at 42 bytes) (u64_at 44 bytes) (rd_found bytes rd.0),
+        rd_fits (has_rd bytes) (u8_at 42 bytes) (u64_at 44 bytes) (rd_found bytes rd.0),
         rw length-csrs_in
             (omega arith),
       );
@@ -178,9 +178,9 @@ found_retire bytes ranges len kind_length e =
         u64_below bytes 20 ranges,
         u32_below bytes 28 ranges,
         u64_below bytes 32 ranges,
-        cause_holds (has_trap bytes) (byte_at 41 bytes) (byte_below bytes 41 ranges),
-        rd_holds (has_rd bytes) (byte_at 42 bytes) (u64_at 44 bytes) (byte_below bytes 42 ranges)
+        cause_holds (has_trap bytes) (u8_at 41 bytes) (byte_below bytes 41 ranges),
+        rd_holds (has_rd bytes) (u8_at 42 bytes) (u64_at 44 bytes) (byte_below bytes 42 ranges)
             (u64_below bytes 44 ranges),
-        csrs_hold (byte_at 43 bytes) (drop 52 bytes) (AreBytes-drop 52 bytes ranges),
+        csrs_hold (u8_at 43 bytes) (drop 52 bytes) (AreBytes-drop 52 bytes ranges),
       );
     }

@@ -8,7 +8,7 @@ use Rattle.msg_frames.specs.declared.message.FrameFault.{FrameFault}
 use Rattle.msg_frames.specs.declared.message.Message.{Message}
 use Rattle.msg_frames.specs.declared.kinds.Kind.{Kind}
 use Rattle.msg_frames.specs.declared.kinds.Kind.TheVariants as kind
-use Rattle.tandem_base.specs.Fields.{byte_at, u16_at}
+use Rattle.tandem_base.specs.Fields.{u8_at, u16_at}
 use Rattle.msg_frames.specs.Kinds.{code_of, kind_of, has_length, has_piece_length}
 use Rattle.msg_frames.specs.Frames.{AreBytes, body_bytes, frame, Spells}
 use Rattle.msg_frames.specs.Reading.{field_fault, piece_fault, body_in, message_in, reading}
@@ -63,7 +63,7 @@ head_same : (size size' code code' hart time tag : ℕ) (rest : List ℕ) → si
     ≡ to_le_bytes w16 size' ++ code' ∷ hart ∷ to_le_bytes w64 time ++ to_le_bytes w64 tag ++ rest
 head_same size size' code code' hart time tag rest s c = rw (s, c) refl
 
-spelled_as : (which : Kind) (bytes : List ℕ) → AreBytes bytes → Whole bytes → byte_at 2 bytes ≡ code_of which
+spelled_as : (which : Kind) (bytes : List ℕ) → AreBytes bytes → Whole bytes → u8_at 2 bytes ≡ code_of which
     → Found which bytes
     → bytes ≡ frame (message_in which bytes)
 spelled_as which bytes ranges whole code found =
@@ -82,7 +82,7 @@ spells_read bytes message ranges whole read =
     let which = read.which in
     let found = found_of which bytes ranges whole read.length read.checked in
     let spelled : Spells bytes (message_in which bytes) = record {
-      is = spelled_as which bytes ranges whole (coded_is (byte_at 2 bytes) which read.coded) found;
+      is = spelled_as which bytes ranges whole (coded_is (u8_at 2 bytes) which read.coded) found;
       fits = found.fits;
       holds = (byte_below bytes 3 ranges, u64_below bytes 4 ranges, u64_below bytes 12 ranges, found.holds);
     } in

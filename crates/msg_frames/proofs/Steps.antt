@@ -8,7 +8,7 @@ use Rattle.tandem_base.specs.FirstFault.{◌or_else◌, unless}
 use Rattle.msg_frames.specs.declared.message.FrameFault.{FrameFault}
 use Rattle.msg_frames.specs.declared.message.Form.{Form}
 use Rattle.std.specs.Int.{bit_at}
-use Rattle.msg_frames.specs.Reading.{rule, zeros, is_stray, unmasked_zeros}
+use Rattle.msg_frames.specs.Reading.{rule, zeros, is_stray_byte, unmasked_zeros}
 
 -- neither the first nor the next found a fault
 pub none_else : (first next : Option FrameFault) → first or_else next ≡ None → (first ≡ None) × (next ≡ None)
@@ -64,8 +64,10 @@ pub unmasked_ok : (mask k : ℕ) (bytes : List ℕ) → unmasked_zeros mask k by
 unmasked_ok mask k [] e i outside = refl
 unmasked_ok mask k (byte ∷ bytes) e zero outside =
     let here : bit_at mask k ≡ 0 = rw add-zero at outside in
-    stray_no (bit_at mask k) byte (chosen_later (is_stray mask k byte) (unmasked_zeros mask (k + 1) bytes) _ e).0 here
+    stray_no (bit_at mask k) byte
+    (chosen_later (is_stray_byte mask k byte) (unmasked_zeros mask (k + 1) bytes) _ e).0 here
 unmasked_ok mask k (byte ∷ bytes) e (suc i) outside =
     let same : k + suc i ≡ k + 1 + i = omega arith in
-    unmasked_ok mask (k + 1) bytes (chosen_later (is_stray mask k byte) (unmasked_zeros mask (k + 1) bytes) _ e).1 i
+    unmasked_ok mask (k + 1) bytes
+    (chosen_later (is_stray_byte mask k byte) (unmasked_zeros mask (k + 1) bytes) _ e).1 i
     (rw same at outside)

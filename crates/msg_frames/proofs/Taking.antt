@@ -13,19 +13,19 @@ use Rattle.tandem_io.specs.Told.{Log, taken}
 use Rattle.tandem_io.proofs.LogLaws.{Logs-nil, Logs-trans}
 use Rattle.msg_frames.specs.declared.message.Form.TheVariants as form
 use Rattle.tandem_base.specs.Fields.{u16_at}
-use Rattle.msg_frames.specs.Reading.{fault, is_length, is_whole, reading}
+use Rattle.msg_frames.specs.Reading.{fault, is_length, has_stated_length, reading}
 use Rattle.msg_frames.specs.Cut.{needed}
-use Rattle.msg_frames.specs.Taking.{Took, IsWholeFrame, IsShort}
+use Rattle.msg_frames.specs.Taking.{TakenFrom, IsWholeFrame, IsShort}
 
 -- ---- reads in turn
 
-pub Took-nil : (left : Option (List ℕ)) (log : Log) → Took left left log log []
-Took-nil left log = record { consumed = Consumes-nil left; logged = Logs-nil log }
+pub TakenFrom-nil : (left : Option (List ℕ)) (log : Log) → TakenFrom left left log log []
+TakenFrom-nil left log = record { consumed = Consumes-nil left; logged = Logs-nil log }
 
-pub Took-trans : (left left' left'' : Option (List ℕ)) (log log' log'' : Log) (first second : List ℕ)
-    → Took left left' log log' first → Took left' left'' log' log'' second
-    → Took left left'' log log'' (first ++ second)
-Took-trans left left' left'' log log' log'' first second p q = record {
+pub TakenFrom-trans : (left left' left'' : Option (List ℕ)) (log log' log'' : Log) (first second : List ℕ)
+    → TakenFrom left left' log log' first → TakenFrom left' left'' log' log'' second
+    → TakenFrom left left'' log log'' (first ++ second)
+TakenFrom-trans left left' left'' log log' log'' first second p q = record {
   consumed = Consumes-trans left left' left'' first second p.consumed q.consumed;
   logged = rw map-append (Logs-trans log log' log'' (map taken first) (map taken second) p.logged q.logged);
 }
@@ -91,7 +91,7 @@ whole_no false b c e = refl
 -- a length out of bounds
 pub reading_bad : (got : List ℕ) → is_length (u16_at 0 got) ≡ false → reading got ≡ Err (fault form.Length 0)
 unfolding reading
-reading_bad got bad = cond-false (is_whole got) _ (Err (fault form.Length 0))
+reading_bad got bad = cond-false (has_stated_length got) _ (Err (fault form.Length 0))
     (whole_no (nat_le 2 (length got)) (is_length (u16_at 0 got)) (length got == u16_at 0 got + 2) bad)
 
 -- ---- the buffer of two reads

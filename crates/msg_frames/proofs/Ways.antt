@@ -8,19 +8,19 @@ use Rattle.tandem_base.specs.FirstFault.{unless}
 use Rattle.msg_frames.specs.declared.message.Message.{Message}
 use Rattle.msg_frames.specs.declared.kinds.Kind.{Kind}
 use Rattle.msg_frames.specs.declared.kinds.Kind.TheVariants as kind
-use Rattle.tandem_base.specs.Fields.{byte_at, u16_at}
+use Rattle.tandem_base.specs.Fields.{u8_at, u16_at}
 use Rattle.msg_frames.specs.Kinds.{code_of, kind_coded, has_length}
-use Rattle.msg_frames.specs.Reading.{field_fault, message_in, is_whole, reading_of, reading}
+use Rattle.msg_frames.specs.Reading.{field_fault, message_in, has_stated_length, reading_of, reading}
 use Rattle.msg_frames.proofs.Steps.{unless_ok, chosen, chosen_ok}
 
 pub record Read (bytes : List ℕ) (message : Message) : Type 0 where
   pub which : Kind
-  pub coded : kind_coded (byte_at 2 bytes) ≡ Some which
+  pub coded : kind_coded (u8_at 2 bytes) ≡ Some which
   pub length : has_length which (u16_at 0 bytes) ≡ true
   pub checked : field_fault which bytes ≡ None
   pub value : message_in which bytes ≡ message
 
-read_of : (o : Option Kind) (bytes : List ℕ) (message : Message) → o ≡ kind_coded (byte_at 2 bytes)
+read_of : (o : Option Kind) (bytes : List ℕ) (message : Message) → o ≡ kind_coded (u8_at 2 bytes)
     → reading_of o bytes ≡ Ok message → Read bytes message
 unfolding reading_of
 read_of None bytes message o e = cc
@@ -31,11 +31,11 @@ read_of (Some which) bytes message o e =
     record { which = which; coded = sym o; length = way.0; checked = last.0; value = last.1 }
 
 pub reading_ok : (bytes : List ℕ) (message : Message) → reading bytes ≡ Ok message
-    → (is_whole bytes ≡ true) × Read bytes message
+    → (has_stated_length bytes ≡ true) × Read bytes message
 unfolding reading
 reading_ok bytes message e =
-    let way = chosen_ok (is_whole bytes) (reading_of (kind_coded (byte_at 2 bytes)) bytes) _ message e in
-    (way.0, read_of (kind_coded (byte_at 2 bytes)) bytes message refl way.1)
+    let way = chosen_ok (has_stated_length bytes) (reading_of (kind_coded (u8_at 2 bytes)) bytes) _ message e in
+    (way.0, read_of (kind_coded (u8_at 2 bytes)) bytes message refl way.1)
 
 coded_else : (code n : ℕ) (k : Kind) (rest : Option Kind) (which : Kind) → code_of k ≡ n
     → cond (code == n) (Some k) rest ≡ Some which
@@ -71,7 +71,7 @@ whole_high n size e = grind (arith, nat_tests)
 whole_size : (n size : ℕ) → (nat_le 2 n && (nat_le 18 size && nat_le size 512) && n == size + 2) ≡ true → n ≡ size + 2
 whole_size n size e = grind (arith, nat_tests)
 
-pub whole_is : (bytes : List ℕ) → is_whole bytes ≡ true → Whole bytes
+pub whole_is : (bytes : List ℕ) → has_stated_length bytes ≡ true → Whole bytes
 whole_is bytes e = record {
   low = whole_low (length bytes) (u16_at 0 bytes) e;
   high = whole_high (length bytes) (u16_at 0 bytes) e;

@@ -22,7 +22,7 @@ use Rattle.msg_frames.specs.declared.message.Form.TheVariants as form
 use Rattle.msg_frames.specs.declared.message.FrameFault.{FrameFault}
 use Rattle.msg_frames.specs.declared.kinds.Kind.{Kind}
 use Rattle.msg_frames.specs.declared.kinds.Kind.TheVariants as kind
-use Rattle.tandem_base.specs.Fields.{byte_at, u16_at, u32_at, u64_at}
+use Rattle.tandem_base.specs.Fields.{u8_at, u16_at, u32_at, u64_at}
 use Rattle.msg_frames.specs.Frames.{is_poked_csr}
 use Rattle.msg_frames.specs.Kinds.{kind_coded, has_length}
 
@@ -43,91 +43,91 @@ zeros at [] = None
 zeros at (byte ∷ bytes) = if byte == 0 then zeros (at + 1) bytes else Some (fault form.Reserved at)
 
 -- the `count` bytes from this offset on have to be 0
-abbrev pub reserved : ℕ → ℕ → List ℕ → Option FrameFault
-reserved at count frame = zeros at (take count (drop at frame))
+abbrev pub reserved_fault : ℕ → ℕ → List ℕ → Option FrameFault
+reserved_fault at count frame = zeros at (take count (drop at frame))
 
 -- byte k of a line is outside the mask, and not 0
-abbrev pub is_stray : ℕ → ℕ → ℕ → Bool
-is_stray mask k byte = bit_at mask k == 0 && not (byte == 0)
+abbrev pub is_stray_byte : ℕ → ℕ → ℕ → Bool
+is_stray_byte mask k byte = bit_at mask k == 0 && not (byte == 0)
 
 -- these bytes, the first with number k of its line, have to be 0 outside the mask; byte k is at
 -- offset 36 + k
 abbrev pub unmasked_zeros : ℕ → ℕ → List ℕ → Option FrameFault
 unmasked_zeros mask k [] = None
 unmasked_zeros mask k (byte ∷ bytes) =
-    if is_stray mask k byte then Some (fault form.Reserved (36 + k)) else unmasked_zeros mask (k + 1) bytes
+    if is_stray_byte mask k byte then Some (fault form.Reserved (36 + k)) else unmasked_zeros mask (k + 1) bytes
 
 -- the hart and the tag, then the settings
 abbrev pub open_fault : List ℕ → Option FrameFault
 open_fault frame =
-    reserved 3 1 frame
-    or_else reserved 12 8 frame
-    or_else rule form.Field 20 (byte_at 20 frame == 1)
-    or_else rule form.Field 21 (nat_le 1 (byte_at 21 frame) && nat_le (byte_at 21 frame) 16)
-    or_else rule form.Reserved 22 (nat_lt (byte_at 22 frame) 4)
-    or_else reserved 23 1 frame
-    or_else reserved 24 4 frame
+    reserved_fault 3 1 frame
+    or_else reserved_fault 12 8 frame
+    or_else rule form.Field 20 (u8_at 20 frame == 1)
+    or_else rule form.Field 21 (nat_le 1 (u8_at 21 frame) && nat_le (u8_at 21 frame) 16)
+    or_else rule form.Reserved 22 (nat_lt (u8_at 22 frame) 4)
+    or_else reserved_fault 23 1 frame
+    or_else reserved_fault 24 4 frame
 
 -- the number and the value that go with each target
 abbrev pub target_fault : ℕ → List ℕ → Option FrameFault
 target_fault target frame =
-    if target == 0 then reserved 22 2 frame or_else rule form.Field 24 (u64_at 24 frame % 4 == 0)
+    if target == 0 then reserved_fault 22 2 frame or_else rule form.Field 24 (u64_at 24 frame % 4 == 0)
     else if target == 1 then rule form.Field 22 (nat_le 1 (u16_at 22 frame) && nat_le (u16_at 22 frame) 31)
     else rule form.Field 22 (is_poked_csr (u16_at 22 frame))
 
 -- the tag, the target, the zero, and what goes with the target
 abbrev pub poke_fault : List ℕ → Option FrameFault
 poke_fault frame =
-    reserved 12 8 frame
-    or_else rule form.Field 20 (nat_le (byte_at 20 frame) 2)
-    or_else reserved 21 1 frame
-    or_else target_fault (byte_at 20 frame) frame
+    reserved_fault 12 8 frame
+    or_else rule form.Field 20 (nat_le (u8_at 20 frame) 2)
+    or_else reserved_fault 21 1 frame
+    or_else target_fault (u8_at 20 frame) frame
 
 -- as many bytes of memory as the length leaves room for
 abbrev pub piece_fault : List ℕ → Option FrameFault
-piece_fault frame = rule form.Field 28 (27 + byte_at 28 frame == u16_at 0 frame)
+piece_fault frame = rule form.Field 28 (27 + u8_at 28 frame == u16_at 0 frame)
 
 -- the tag, the line, and the bytes outside the mask
 abbrev pub write_fault : List ℕ → Option FrameFault
 write_fault frame =
-    reserved 12 8 frame
+    reserved_fault 12 8 frame
     or_else rule form.Field 20 (u64_at 20 frame % 64 == 0)
     or_else unmasked_zeros (u64_at 28 frame) 0 (take 64 (drop 36 frame))
 
 -- bit 0 of the flags: it trapped
 abbrev pub has_trap : List ℕ → Bool
-has_trap frame = byte_at 40 frame % 2 == 1
+has_trap frame = u8_at 40 frame % 2 == 1
 
 -- bit 1 of the flags: it wrote a register
 abbrev pub has_rd : List ℕ → Bool
-has_rd frame = byte_at 40 frame / 2 % 2 == 1
+has_rd frame = u8_at 40 frame / 2 % 2 == 1
 
 -- without a trap the cause is 0
 unfoldable pub cause_fault : List ℕ → Option FrameFault
-cause_fault frame = if has_trap frame then None else reserved 41 1 frame
+cause_fault frame = if has_trap frame then None else reserved_fault 41 1 frame
 
 -- the register that is written is x1 to x31, and else 0
 unfoldable pub rd_fault : List ℕ → Option FrameFault
 rd_fault frame =
-    if has_rd frame then rule form.Field 42 (nat_le 1 (byte_at 42 frame) && nat_le (byte_at 42 frame) 31)
-    else reserved 42 1 frame
+    if has_rd frame then rule form.Field 42 (nat_le 1 (u8_at 42 frame) && nat_le (u8_at 42 frame) 31)
+    else reserved_fault 42 1 frame
 
 -- without a register its value is 0
 unfoldable pub value_fault : List ℕ → Option FrameFault
-value_fault frame = if has_rd frame then None else reserved 44 8 frame
+value_fault frame = if has_rd frame then None else reserved_fault 44 8 frame
 
 -- the flags, the cause, the register, how many CSRs the length leaves room for, and the value
 abbrev pub retire_fault : List ℕ → Option FrameFault
 retire_fault frame =
-    rule form.Reserved 40 (nat_lt (byte_at 40 frame) 4)
+    rule form.Reserved 40 (nat_lt (u8_at 40 frame) 4)
     or_else cause_fault frame
     or_else rd_fault frame
-    or_else rule form.Field 43 (50 + 10 * byte_at 43 frame == u16_at 0 frame)
+    or_else rule form.Field 43 (50 + 10 * u8_at 43 frame == u16_at 0 frame)
     or_else value_fault frame
 
 -- the hart and the tag
 abbrev pub end_fault : List ℕ → Option FrameFault
-end_fault frame = reserved 3 1 frame or_else reserved 12 8 frame
+end_fault frame = reserved_fault 3 1 frame or_else reserved_fault 12 8 frame
 
 -- the first fault of the fields
 abbrev pub field_fault : Kind → List ℕ → Option FrameFault
@@ -145,23 +145,23 @@ field_fault kind.End frame = end_fault frame
 
 -- the hart, the time and the tag
 abbrev pub head_in : List ℕ → Head
-head_in frame = record { hart = byte_at 3 frame; time = u64_at 4 frame; tag = u64_at 12 frame }
+head_in frame = record { hart = u8_at 3 frame; time = u64_at 4 frame; tag = u64_at 12 frame }
 
 -- the settings
 abbrev pub open_in : List ℕ → OpenInfo
 open_in frame = record {
-  version = byte_at 20 frame;
-  harts = byte_at 21 frame;
-  flags = byte_at 22 frame;
-  granule = byte_at 23 frame;
+  version = u8_at 20 frame;
+  harts = u8_at 21 frame;
+  flags = u8_at 22 frame;
+  granule = u8_at 23 frame;
   skew = u32_at 24 frame;
 }
 
 -- what a Poke sets
 abbrev pub target_in : List ℕ → Target
 target_in frame =
-    if byte_at 20 frame == 0 then Pc
-    else if byte_at 20 frame == 1 then X (byte_at 22 frame)
+    if u8_at 20 frame == 0 then Pc
+    else if u8_at 20 frame == 1 then X (u8_at 22 frame)
     else Csr (u16_at 22 frame)
 
 -- what a Poke sets, and its value
@@ -183,11 +183,11 @@ csrs_in (suc count) bytes = record { number = u16_at 0 bytes; value = u64_at 2 b
 
 -- the cause of the trap that a Retire says it had
 abbrev pub trap_in : List ℕ → Option ℕ
-trap_in frame = if has_trap frame then Some (byte_at 41 frame) else None
+trap_in frame = if has_trap frame then Some (u8_at 41 frame) else None
 
 -- the register that a Retire says it wrote
 abbrev pub rd_in : List ℕ → Option RdValue
-rd_in frame = if has_rd frame then Some (record { number = byte_at 42 frame; value = u64_at 44 frame }) else None
+rd_in frame = if has_rd frame then Some (record { number = u8_at 42 frame; value = u64_at 44 frame }) else None
 
 -- a Retire, with the trap, the register and the CSRs that it says it has
 abbrev pub retire_in : List ℕ → Retire
@@ -197,7 +197,7 @@ retire_in frame = record {
   next = u64_at 32 frame;
   trap = trap_in frame;
   rd = rd_in frame;
-  csrs = csrs_in (byte_at 43 frame) (drop 52 frame);
+  csrs = csrs_in (u8_at 43 frame) (drop 52 frame);
 }
 
 -- the fields of a kind
@@ -223,8 +223,8 @@ abbrev pub is_length : ℕ → Bool
 is_length length = nat_le 18 length && nat_le length 512
 
 -- as many bytes as its length says
-abbrev pub is_whole : List ℕ → Bool
-is_whole frame = nat_le 2 (length frame) && is_length (u16_at 0 frame) && length frame == u16_at 0 frame + 2
+abbrev pub has_stated_length : List ℕ → Bool
+has_stated_length frame = nat_le 2 (length frame) && is_length (u16_at 0 frame) && length frame == u16_at 0 frame + 2
 
 -- what a frame of this kind spells
 unfoldable pub reading_of : Option Kind → List ℕ → Result Message FrameFault
@@ -236,5 +236,5 @@ reading_of (Some kind) frame =
 -- the message that the bytes spell, or how they break the form of a frame
 unfoldable pub reading : List ℕ → Result Message FrameFault
 reading frame =
-    if is_whole frame then reading_of (kind_coded (byte_at 2 frame)) frame
+    if has_stated_length frame then reading_of (kind_coded (u8_at 2 frame)) frame
     else Err (fault form.Length 0)

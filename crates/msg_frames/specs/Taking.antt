@@ -15,7 +15,7 @@ use Rattle.msg_frames.specs.Reading.{reading}
 use Rattle.msg_frames.specs.Cut.{needed}
 
 -- these bytes were taken from what was left of a source, and logged as taken
-pub record Took (left left' : Option (List ℕ)) (log log' : Log) (got : List ℕ) : Type 0 where
+pub record TakenFrom (left left' : Option (List ℕ)) (log log' : Log) (got : List ℕ) : Type 0 where
   pub consumed : Consumes left left' got
   pub logged : Logs log log' (map taken got)
 

@@ -1,7 +1,8 @@
 //! The first fault of the fields of a frame, in the order of their offsets.
 
 ghost use Rattle.std.specs.Prelude.{◌≡◌, ◌+◌, ◌<◌, ◌≤◌, length, take, drop, true};
-ghost use Rattle.msg_frames.specs.Reading.{fault, rule, zeros, reserved, is_stray, unmasked_zeros, open_fault};
+ghost use Rattle.msg_frames.specs.Reading.{fault, rule, zeros, reserved_fault, is_stray_byte};
+ghost use Rattle.msg_frames.specs.Reading.{unmasked_zeros, open_fault};
 ghost use Rattle.msg_frames.specs.Reading.{poke_fault, target_fault, piece_fault, write_fault, has_trap, has_rd};
 ghost use Rattle.msg_frames.specs.Reading.{cause_fault, rd_fault, value_fault, retire_fault, end_fault};
 ghost use Rattle.msg_frames.specs.Reading.{field_fault};
@@ -43,18 +44,18 @@ fn zeros(at: u16, bytes: &[u8]) -> Result<(), FrameFault>
 }
 
 /// The `count` bytes from offset `at` on have to be 0.
-fn reserved(at: u16, count: u16, frame: &[u8]) -> Result<(), FrameFault>
+fn reserved_fault(at: u16, count: u16, frame: &[u8]) -> Result<(), FrameFault>
     requires inside { at + count ≤ length frame.now }
     requires sized { length frame.now ≤ 514 }
-    ensures { result ≡ passed (reserved at count frame.now) }
+    ensures { result ≡ passed (reserved_fault at count frame.now) }
 {
     zeros(at, &frame[usize::from(at)..usize::from(at + count)])
 }
 
 /// Whether byte `k` of a line is outside the mask, and not 0.
-fn is_stray(mask: u64, k: u8, byte: u8) -> bool
+fn is_stray_byte(mask: u64, k: u8, byte: u8) -> bool
     requires { k < 64 }
-    ensures { result ≡ is_stray mask k byte }
+    ensures { result ≡ is_stray_byte mask k byte }
 {
     (mask >> k) % 2 == 0 && byte != 0
 }
@@ -65,7 +66,7 @@ pub fn unmasked_zeros(mask: u64, bytes: &[u8]) -> Result<(), FrameFault>
     ensures { result ≡ passed (unmasked_zeros mask 0 bytes.now) }
 {
     for (k, byte) in bytes.iter().enumerate() {
-        if is_stray(mask, k as u8, *byte) {
+        if is_stray_byte(mask, k as u8, *byte) {
             return Err(fault(Form::Reserved, 36 + k as u16));
         }
     }
@@ -77,13 +78,13 @@ fn check_open(frame: &[u8]) -> Result<(), FrameFault>
     requires { length frame.now ≡ 28 }
     ensures { result ≡ passed (open_fault frame.now) }
 {
-    reserved(3, 1, frame)?;
-    reserved(12, 8, frame)?;
+    reserved_fault(3, 1, frame)?;
+    reserved_fault(12, 8, frame)?;
     rule(Form::Field, 20, frame[20] == 1)?;
     rule(Form::Field, 21, 1 <= frame[21] && frame[21] <= 16)?;
     rule(Form::Reserved, 22, frame[22] < 4)?;
-    reserved(23, 1, frame)?;
-    reserved(24, 4, frame)
+    reserved_fault(23, 1, frame)?;
+    reserved_fault(24, 4, frame)
 }
 
 /// Whether a Poke may set the CSR of this number.
@@ -103,7 +104,7 @@ fn check_target(target: u8, frame: &[u8]) -> Result<(), FrameFault>
 {
     match target {
         0 => {
-            reserved(22, 2, frame)?;
+            reserved_fault(22, 2, frame)?;
             rule(Form::Field, 24, u64_at(24, frame) % 4 == 0)
         }
         1 => {
@@ -119,9 +120,9 @@ fn check_poke(frame: &[u8]) -> Result<(), FrameFault>
     requires { length frame.now ≡ 32 }
     ensures { result ≡ passed (poke_fault frame.now) }
 {
-    reserved(12, 8, frame)?;
+    reserved_fault(12, 8, frame)?;
     rule(Form::Field, 20, frame[20] <= 2)?;
-    reserved(21, 1, frame)?;
+    reserved_fault(21, 1, frame)?;
     check_target(frame[20], frame)
 }
 
@@ -142,7 +143,7 @@ fn check_write(frame: &[u8]) -> Result<(), FrameFault>
     requires { length frame.now ≡ 100 }
     ensures { result ≡ passed (write_fault frame.now) }
 {
-    reserved(12, 8, frame)?;
+    reserved_fault(12, 8, frame)?;
     rule(Form::Field, 20, u64_at(20, frame) % 64 == 0)?;
     unmasked_zeros(u64_at(28, frame), &frame[36..100])
 }
@@ -173,7 +174,7 @@ fn check_cause(frame: &[u8]) -> Result<(), FrameFault>
     if has_trap(frame) {
         Ok(())
     } else {
-        reserved(41, 1, frame)
+        reserved_fault(41, 1, frame)
     }
 }
 
@@ -187,7 +188,7 @@ fn check_rd(frame: &[u8]) -> Result<(), FrameFault>
     if has_rd(frame) {
         rule(Form::Field, 42, 1 <= frame[42] && frame[42] <= 31)
     } else {
-        reserved(42, 1, frame)
+        reserved_fault(42, 1, frame)
     }
 }
 
@@ -201,7 +202,7 @@ fn check_value(frame: &[u8]) -> Result<(), FrameFault>
     if has_rd(frame) {
         Ok(())
     } else {
-        reserved(44, 8, frame)
+        reserved_fault(44, 8, frame)
     }
 }
 
@@ -227,8 +228,8 @@ fn check_end(frame: &[u8]) -> Result<(), FrameFault>
     requires { length frame.now ≡ 20 }
     ensures { result ≡ passed (end_fault frame.now) }
 {
-    reserved(3, 1, frame)?;
-    reserved(12, 8, frame)
+    reserved_fault(3, 1, frame)?;
+    reserved_fault(12, 8, frame)
 }
 
 /// The first fault of the fields.

@@ -25,7 +25,7 @@ pub fn decode(frame: &[u8]) -> Result<Message, FrameFault>
 
 /// As `decode`, into a message that is lent: it is made the one that the frame spells. Where the
 /// bytes break the form of a frame it stays as it is.
-pub fn decode_into(frame: &[u8], message: &mut Message) -> Result<(), FrameFault>
+pub(crate) fn decode_into(frame: &[u8], message: &mut Message) -> Result<(), FrameFault>
     ensures value { OnOk result (reading frame.now ≡ Ok message.new) }
     ensures found { OnOk result (Spells frame.now message.new) }
     ensures fault { IfErr result (λ fault. reading frame.now ≡ Err fault) }

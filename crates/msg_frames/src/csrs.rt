@@ -73,7 +73,7 @@ impl CsrList {
     }
 
     /// The same list, without taking memory.
-    pub fn copy(&self) -> CsrList
+    pub(crate) fn copy(&self) -> CsrList
         ensures { result ≡ self.now }
     {
         let mut list = CsrList::new();

@@ -14,7 +14,7 @@ mod rules;
 mod sizes;
 mod source;
 
-pub use codec::{decode, decode_into};
+pub use codec::decode;
 pub use csrs::{CsrList, CsrValue};
 pub use encoding::encode;
 pub use laws::streams_are_cut_frame_by_frame;

@@ -1,6 +1,6 @@
 //! Lists of messages.
 
-ghost use Rattle.std.specs.Prelude.{◌≡◌, [], ◌∷◌, ◌++◌, length, OnOk, OnErr, slice_get};
+ghost use Rattle.std.specs.Prelude.{◌≡◌, [], ◌∷◌, ◌++◌, length, OnOk, OnErr, IfSome, IfNone, slice_get};
 ghost use Rattle.std.specs.Option.{option_copied};
 
 use super::message::Message;
@@ -39,6 +39,14 @@ impl MessageList {
     {
         self.items.push(item)?;
         Ok(())
+    }
+
+    /// Takes the last message off. None exactly where there is none, and then nothing changes.
+    pub fn pop(&mut self) -> Option<Message>
+        ensures some { IfSome result (λ item. self.old ≡ self.new ++ item ∷ []) }
+        ensures none { IfNone result ((self.old ≡ []) × (self.new ≡ [])) }
+    {
+        self.items.pop()
     }
 
     /// How many there are.

@@ -1,6 +1,6 @@
 //! Messages, by their kinds.
 
-ghost use Rattle.std.specs.Prelude.{◌≡◌};
+ghost use Rattle.std.specs.Prelude.{◌≡◌, [], None};
 
 use super::csrs::CsrList;
 use tandem_base::Bytes8;
@@ -134,8 +134,11 @@ pub struct Message {
 }
 
 impl Message {
-    /// A message to be overwritten.
-    pub(crate) fn blank() -> Message {
+    /// A message to be overwritten: a Squash of hart 0 at time 0 with tag 0.
+    pub(crate) fn blank() -> Message
+        ensures head { result.head ≡ record { hart = 0; time = 0; tag = 0 } }
+        ensures body { result.body ≡ Body.Squash }
+    {
         let head = Head {
             hart: 0,
             time: 0,
@@ -170,8 +173,11 @@ impl Message {
 }
 
 impl Retire {
-    /// A Retire to be overwritten.
-    pub(crate) fn blank() -> Retire {
+    /// A Retire to be overwritten: all numbers are 0, and nothing was written.
+    pub(crate) fn blank() -> Retire
+        ensures numbers { (result.pc ≡ 0) × (result.word ≡ 0) × (result.next ≡ 0) }
+        ensures nothing { (result.trap ≡ None) × (result.rd ≡ None) × (result.csrs ≡ []) }
+    {
         Retire {
             pc: 0,
             word: 0,

@@ -2,11 +2,11 @@
 
 ghost use Rattle.std.specs.Prelude.{◌≡◌, ◌+◌, ◌*◌, ◌≤◌, length, true, take, drop};
 ghost use Rattle.std.specs.Prelude.{None, Ok, Err, OnOk, OnErr, IfOk, IfErr};
-ghost use Rattle.tandem_base.specs.Fields.{u16_at, byte_at};
+ghost use Rattle.tandem_base.specs.Fields.{u16_at, u8_at};
 ghost use Rattle.msg_frames.specs.Kinds.{has_length};
 ghost use Rattle.msg_frames.specs.Reading.{head_in, open_in, target_in, poke_in, piece_in, write_in, csrs_in};
 ghost use Rattle.msg_frames.specs.Reading.{trap_in, rd_in, retire_in, body_in, message_in, field_fault};
-ghost use Rattle.msg_frames.specs.Reading.{is_length, is_whole, reading};
+ghost use Rattle.msg_frames.specs.Reading.{is_length, has_stated_length, reading};
 
 use super::checks::{check_fields, fault, has_rd, has_trap};
 use super::csrs::{CsrList, CsrValue};
@@ -130,8 +130,8 @@ fn rd_in(frame: &[u8]) -> Option<RdValue>
 
 /// Overwrites a Retire by that of a frame.
 fn retire_into(frame: &[u8], retire: &mut Retire)
-    requires few { byte_at 43 frame.now ≤ 4 }
-    requires whole { 52 + 10 * byte_at 43 frame.now ≤ length frame.now }
+    requires few { u8_at 43 frame.now ≤ 4 }
+    requires whole { 52 + 10 * u8_at 43 frame.now ≤ length frame.now }
     ensures { retire.new ≡ retire_in frame.now }
 {
     retire.pc = u64_at(20, frame);
@@ -144,8 +144,8 @@ fn retire_into(frame: &[u8], retire: &mut Retire)
 
 /// Makes a body the Retire of a frame. One that is a Retire already is overwritten where it lies.
 fn retire_body(frame: &[u8], body: &mut Body)
-    requires few { byte_at 43 frame.now ≤ 4 }
-    requires whole { 52 + 10 * byte_at 43 frame.now ≤ length frame.now }
+    requires few { u8_at 43 frame.now ≤ 4 }
+    requires whole { 52 + 10 * u8_at 43 frame.now ≤ length frame.now }
     ensures { body.new ≡ Body.Retire (retire_in frame.now) }
 {
     if let Body::Retire(retire) = body {
@@ -185,8 +185,8 @@ pub fn is_length(length: u16) -> bool
 }
 
 /// Whether there are as many bytes as the length says, and some frame has the length.
-fn is_whole(frame: &[u8]) -> bool
-    ensures { result ≡ is_whole frame.now }
+fn has_stated_length(frame: &[u8]) -> bool
+    ensures { result ≡ has_stated_length frame.now }
 {
     if frame.len() < 2 {
         return false;
@@ -205,7 +205,7 @@ fn kind_in(frame: &[u8]) -> Result<Kind, FrameFault>
     ensures checked { IfOk result (λ kind. field_fault kind frame.now ≡ None) }
     ensures fault { IfErr result (λ fault. reading frame.now ≡ Err fault) }
 {
-    if !is_whole(frame) {
+    if !has_stated_length(frame) {
         return Err(fault(Form::Length, 0));
     }
     let Some(kind) = kind_coded(frame[2]) else {

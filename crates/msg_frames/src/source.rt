@@ -2,7 +2,7 @@
 
 ghost use Rattle.std.specs.Prelude.{◌≡◌, ◌<◌, ◌≤◌, ℕ, List, Option, false, length};
 ghost use Rattle.tandem_io.specs.Causes.{Rose};
-ghost use Rattle.msg_frames.specs.Taking.{Took, NextIs, is_ended, with_message, IsKept, IsWholeFrame, FilledIs};
+ghost use Rattle.msg_frames.specs.Taking.{TakenFrom, NextIs, is_ended, with_message, IsKept, IsWholeFrame, FilledIs};
 ghost use Rattle.msg_frames.specs.Taking.{has_ended, size_at_front};
 ghost use Rattle.msg_frames.specs.Reading.{is_length};
 
@@ -56,7 +56,7 @@ pub enum Filled {
 fn fill<S: Source>(src: &mut S, buf: &mut [u8]) -> Filled
     requires { 0 < length buf.old }
     ensures taken { (got : List ℕ)
-        × Took (S.left src.old) (S.left src.new) (S.log src.old) (S.log src.new) got
+        × TakenFrom (S.left src.old) (S.left src.new) (S.log src.old) (S.log src.new) got
         × FilledIs result got buf.new (S.left src.new) }
     ensures ended { S.ended src.new ≡ has_ended result }
     ensures count { S.faults src.old ≤ S.faults src.new }
@@ -90,10 +90,9 @@ fn read_frame(frame: &[u8], message: &mut Message) -> Arrived
 }
 
 /// Takes one frame by way of the buffer, and reads it.
-fn take_by_buffer<S: Source>(src: &mut S, buf: &mut [u8], message: &mut Message) -> Arrived
-    requires { length buf.old ≡ 514 }
+fn take_by_buffer<S: Source>(src: &mut S, buf: &mut [u8; 514], message: &mut Message) -> Arrived
     ensures taken { (got : List ℕ)
-        × Took (S.left src.old) (S.left src.new) (S.log src.old) (S.log src.new) got
+        × TakenFrom (S.left src.old) (S.left src.new) (S.log src.old) (S.log src.new) got
         × NextIs (with_message result message.new) got (S.left src.new) }
     ensures kept { IsKept result message.old message.new }
     ensures ended { S.ended src.new ≡ is_ended (with_message result message.new) }
@@ -140,10 +139,13 @@ fn size_at_front(bytes: &[u8]) -> usize
 /// message the one that it spells. Where it spells none, or isn't whole, the message stays.
 ///
 /// A frame that the source lends is read where it lies, and each other by way of the buffer.
-pub fn next_message_into<S: Source>(src: &mut S, buf: &mut [u8], message: &mut Message) -> Arrived
-    requires { length buf.old ≡ 514 }
+pub fn next_message_into<S: Source>(
+    src: &mut S,
+    buf: &mut [u8; 514],
+    message: &mut Message,
+) -> Arrived
     ensures taken { (got : List ℕ)
-        × Took (S.left src.old) (S.left src.new) (S.log src.old) (S.log src.new) got
+        × TakenFrom (S.left src.old) (S.left src.new) (S.log src.old) (S.log src.new) got
         × NextIs (with_message result message.new) got (S.left src.new) }
     ensures kept { IsKept result message.old message.new }
     ensures ended { S.ended src.new ≡ is_ended (with_message result message.new) }
@@ -165,7 +167,7 @@ pub fn next_message_into<S: Source>(src: &mut S, buf: &mut [u8], message: &mut M
 /// Takes exactly the bytes of one frame, in whatever pieces the source gives them, and reads it.
 pub fn next_message<S: Source>(src: &mut S) -> Next
     ensures taken { (got : List ℕ)
-        × Took (S.left src.old) (S.left src.new) (S.log src.old) (S.log src.new) got
+        × TakenFrom (S.left src.old) (S.left src.new) (S.log src.old) (S.log src.new) got
         × NextIs result got (S.left src.new) }
     ensures ended { S.ended src.new ≡ is_ended result }
     ensures count { S.faults src.old ≤ S.faults src.new }

@@ -1,11 +1,11 @@
 //! Frames whose bytes were worked out by hand from the rules of their fields.
 
+use crate::codec::decode_into;
 use crate::{
-    Arrived, Form, FrameFault, Message, MessageList, Next, decode, decode_into, encode,
-    next_message, next_message_into, size, streams_are_cut_frame_by_frame, well_formed,
+    Arrived, Form, FrameFault, Message, MessageList, Next, decode, encode, next_message,
+    next_message_into, size, streams_are_cut_frame_by_frame, well_formed,
 };
 use std::alloc::{AllocError, Global};
-use std::process::Abort;
 use std::test::Fail;
 use tandem_io::{Inputs, MemInputs, Slot, Source, SureInputs};
 
@@ -45,6 +45,11 @@ const TRAP: &[u8] = b"\x46\0\x07\0\x01\0\0\0\0\0\0\0\x01\0\0\0\0\0\0\0\0\0\0\x80
 const SQUASH: &[u8] = b"\x12\0\x08\x0f\x07\0\0\0\0\0\0\0\xff\xff\xff\xff\xff\xff\xff\xff";
 
 const END: &[u8] = b"\x12\0\x09\0\x02\0\0\0\0\0\0\0\0\0\0\0\0\0\0\0";
+
+/// One frame of each kind, and of each form of its fields.
+const FRAMES: &[&[u8]] = &[
+    OPEN, POKE_PC, POKE_X, POKE_CSR, READ_3, INSERT_1, BYPASS_8, WRITE, RETIRE, TRAP, SQUASH, END,
+];
 
 /// A byte of a frame changed, and the fault that the frame then has.
 type Break = (usize, u8, Form, u16);
@@ -141,150 +146,160 @@ const END_BREAKS: &[Break] = &[
     (19, 1, Form::Reserved, 19),
 ];
 
+/// An Open, a Retire and an End, two lengths that no frame has, and three bytes more.
+const STREAM: &[u8] = b"\
+\x1a\0\x01\0\0\0\0\0\0\0\0\0\0\0\0\0\0\0\0\0\x01\x01\x00\x00\x00\x00\x00\x00\
+\x32\0\x07\0\x01\0\0\0\0\0\0\0\x01\0\0\0\0\0\0\0\0\0\0\x80\0\0\0\0\
+\x93\0\x50\0\x04\0\0\x80\0\0\0\0\x02\0\x01\0\x05\0\0\0\0\0\0\0\
+\x12\0\x09\0\x02\0\0\0\0\0\0\0\0\0\0\0\0\0\0\0\
+\x11\0\x01\x02\x12\0\x08";
+
+/// The fault of a length that is none, or not that of the bytes.
+const NO_LENGTH: FrameFault = FrameFault {
+    form: Form::Length,
+    offset: 0,
+};
+
+/// The fault of a frame with one byte changed, over a buffer that has room for it.
+fn fault_over(frame: &[u8], at: usize, byte: u8, buf: &mut [u8]) -> Option<FrameFault> {
+    let changed = buf.get_mut(..frame.len())?;
+    changed.copy_from_slice(frame);
+    *changed.get_mut(at)? = byte;
+    decode(changed).err()
+}
+
 /// The fault of a frame with one byte changed.
 fn fault_after(frame: &[u8], at: usize, byte: u8) -> Option<FrameFault> {
     let mut buf = [0; 128];
-    if frame.len() > buf.len() || at >= frame.len() {
-        return None;
-    }
-    buf[..frame.len()].copy_from_slice(frame);
-    buf[at] = byte;
-    decode(&buf[..frame.len()]).err()
+    fault_over(frame, at, byte, &mut buf)
 }
 
-/// Bytes that are fewer than their length says.
-fn check_short(rt: &impl Abort, bytes: &[u8]) {
-    let want = FrameFault {
-        form: Form::Length,
-        offset: 0,
-    };
-    assert_eq!(rt; decode(bytes).err(), Some(want));
-}
-
-/// The message that a frame spells is well-formed, and spelled by it again.
-fn check_spelling(rt: &impl Abort, frame: &[u8]) {
-    let mut again = [0xee; 514];
-    match decode(frame) {
-        Ok(message) => {
-            let message = message.copy();
-            assert_eq!(rt; usize::from(size(&message)), frame.len());
-            assert!(rt; well_formed(&message), "not well-formed");
-            let n = encode(&message, &mut again);
-            assert!(rt; &again[..n] == frame, "encoded otherwise");
-        }
-        Err(broken) => assert!(rt; false, "a fault at {}", broken.offset),
-    }
-}
-
-/// The frame spells a message, and with each break it has that fault.
-fn check(rt: &impl Abort, frame: &[u8], breaks: &[Break]) {
-    check_spelling(rt, frame);
-    for (at, byte, form, offset) in breaks {
+/// The place of the first break with which the frame hasn't that fault.
+fn first_wrong(frame: &[u8], breaks: &[Break]) -> Option<usize> {
+    for (k, (at, byte, form, offset)) in breaks.iter().enumerate() {
         let want = FrameFault {
             form: *form,
             offset: *offset,
         };
-        assert_eq!(rt;
-            fault_after(frame, *at, *byte),
-            Some(want),
-            "byte {byte} at {at}"
-        );
+        if fault_after(frame, *at, *byte) != Some(want) {
+            return Some(k);
+        }
+    }
+    None
+}
+
+/// Whether the message is well-formed, and spelled by these bytes alone.
+fn is_spelled(message: &Message, frame: &[u8], out: &mut [u8; 514]) -> bool {
+    if !well_formed(message) {
+        return false;
+    }
+    let n = encode(message, out);
+    usize::from(size(message)) == n && &out[..n] == frame
+}
+
+/// Whether the message that the frame spells, copied, is spelled by it again.
+fn is_spelled_again(frame: &[u8]) -> bool {
+    let mut out = [0xee; 514];
+    match decode(frame) {
+        Ok(message) => is_spelled(&message.copy(), frame, &mut out),
+        Err(_broken) => false,
+    }
+}
+
+#[test]
+fn each_kind_is_spelled_again(rt: HostRuntime) {
+    for (k, frame) in FRAMES.iter().enumerate() {
+        assert!(rt; is_spelled_again(frame), "frame {k}");
     }
 }
 
 #[test]
 fn names_the_first_broken_field(rt: HostRuntime) {
-    check(&rt, OPEN, LENGTH_BREAKS);
-    check(&rt, OPEN, OPEN_BREAKS);
-    check(&rt, POKE_PC, POKE_PC_BREAKS);
-    check(&rt, POKE_X, POKE_X_BREAKS);
-    check(&rt, POKE_CSR, POKE_CSR_BREAKS);
-    check(&rt, READ_3, PIECE_BREAKS);
-    check(&rt, INSERT_1, PIECE_BREAKS);
-    check(&rt, BYPASS_8, PIECE_BREAKS);
-    check(&rt, WRITE, WRITE_BREAKS);
-    check(&rt, RETIRE, RETIRE_BREAKS);
-    check(&rt, TRAP, TRAP_BREAKS);
-    check(&rt, SQUASH, &[]);
-    check(&rt, END, END_BREAKS);
-    check_short(&rt, b"");
-    check_short(&rt, b"\x1a");
-    check_short(&rt, b"\x12\0");
-    check_short(&rt, b"\x12\0\x09\0\x02\0\0\0\0\0\0\0\0\0\0\0\0\0\0");
+    assert_eq!(rt; first_wrong(OPEN, LENGTH_BREAKS), None);
+    assert_eq!(rt; first_wrong(OPEN, OPEN_BREAKS), None);
+    assert_eq!(rt; first_wrong(POKE_PC, POKE_PC_BREAKS), None);
+    assert_eq!(rt; first_wrong(POKE_X, POKE_X_BREAKS), None);
+    assert_eq!(rt; first_wrong(POKE_CSR, POKE_CSR_BREAKS), None);
+    assert_eq!(rt; first_wrong(READ_3, PIECE_BREAKS), None);
+    assert_eq!(rt; first_wrong(INSERT_1, PIECE_BREAKS), None);
+    assert_eq!(rt; first_wrong(BYPASS_8, PIECE_BREAKS), None);
+    assert_eq!(rt; first_wrong(WRITE, WRITE_BREAKS), None);
+    assert_eq!(rt; first_wrong(RETIRE, RETIRE_BREAKS), None);
+    assert_eq!(rt; first_wrong(TRAP, TRAP_BREAKS), None);
+    assert_eq!(rt; first_wrong(END, END_BREAKS), None);
 }
 
-/// A stream of an Open, a Retire and an End, two lengths that no frame has, and three bytes more.
-fn stream(alloc: Global) -> Result<Vec<u8>, AllocError> {
-    let mut bytes = Vec::new(alloc);
-    for part in [OPEN, RETIRE, END, b"\x11\0\x01\x02\x12\0\x08"] {
-        bytes.extend_from_slice(part)?;
+#[test]
+fn bytes_that_are_too_few_have_no_length(rt: HostRuntime) {
+    for bytes in [b"".as_slice(), b"\x1a", b"\x12\0", &END[..19]] {
+        assert_eq!(rt; decode(bytes).err(), Some(NO_LENGTH));
     }
-    Ok(bytes)
 }
 
-/// The size of the frame that comes next, where it spells a message.
-fn next_size<S: Source>(src: &mut S) -> Option<u16> {
+/// What comes next from a source, in short.
+#[derive(Clone, Copy, PartialEq, Eq)]
+enum Came {
+    /// The frame of a message, of this size.
+    Size(u16),
+    Bad(FrameFault),
+    Ended(u16),
+    Failed,
+}
+
+/// What comes of the stream.
+const COMES: &[Came] = &[
+    Came::Size(28),
+    Came::Size(52),
+    Came::Size(20),
+    Came::Bad(NO_LENGTH),
+    Came::Bad(NO_LENGTH),
+    Came::Ended(3),
+    Came::Ended(0),
+];
+
+fn comes_next<S: Source>(src: &mut S) -> Came {
     match next_message(src) {
-        Next::Msg(message) => Some(size(&message)),
-        _ => None,
+        Next::Msg(message) => Came::Size(size(&message)),
+        Next::Bad(broken) => Came::Bad(broken),
+        Next::Ended(have) => Came::Ended(have),
+        Next::Failed => Came::Failed,
     }
 }
 
-/// The fault of the frame that comes next.
-fn next_fault<S: Source>(src: &mut S) -> Option<FrameFault> {
-    match next_message(src) {
-        Next::Bad(broken) => Some(broken),
-        _ => None,
+/// Whether all of that comes from inputs that hold the stream.
+fn comes_whole<I: Inputs>(ins: &mut I) -> bool {
+    if ins.attach(Slot::Stream, "stream") != Ok(true) {
+        return false;
     }
+    for want in COMES {
+        if comes_next(ins) != *want {
+            return false;
+        }
+    }
+    true
 }
 
-/// How many bytes are left where the source ends before a whole frame.
-fn next_rest<S: Source>(src: &mut S) -> Option<u16> {
-    match next_message(src) {
-        Next::Ended(have) => Some(have),
-        _ => None,
-    }
+/// Whether it comes in pieces of at most so many bytes.
+fn comes_by(alloc: Global, step: usize) -> Result<bool, AllocError> {
+    let mut ins = MemInputs::new(alloc, step.max(1));
+    ins.add("stream", STREAM)?;
+    Ok(comes_whole(&mut ins))
 }
 
-fn check_stream<I: Inputs>(rt: &impl Abort, ins: &mut I) {
-    assert_eq!(rt; ins.attach(Slot::Stream, "stream"), Ok(true));
-    assert_eq!(rt; next_size(ins), Some(28));
-    assert_eq!(rt; next_size(ins), Some(52));
-    assert_eq!(rt; next_size(ins), Some(20));
-    let broken = FrameFault {
-        form: Form::Length,
-        offset: 0,
-    };
-    assert_eq!(rt; next_fault(ins), Some(broken));
-    assert_eq!(rt; next_fault(ins), Some(broken));
-    assert_eq!(rt; next_rest(ins), Some(3));
-    assert_eq!(rt; next_rest(ins), Some(0));
-}
-
-/// Puts the message of a frame into a list, and answers how many there are and the tag of the first.
-fn listed(alloc: Global, frame: &[u8]) -> Result<Option<(usize, u64)>, AllocError> {
-    let mut list = MessageList::new(alloc);
-    if let Ok(message) = decode(frame) {
-        list.push(message)?;
-    }
-    streams_are_cut_frame_by_frame();
-    Ok(list.get(0).map(|message| (list.len(), message.head.tag)))
+/// Whether it comes where at most so many bytes are lent at a time.
+fn comes_lent_by(alloc: Global, step: usize) -> Result<bool, AllocError> {
+    let mut ins = SureInputs::new(alloc, step.max(1));
+    ins.add("stream", STREAM)?;
+    Ok(comes_whole(&mut ins))
 }
 
 #[test]
 fn takes_frame_after_frame(rt: HostRuntime) -> Result<(), Fail> {
-    let alloc = rt.alloc();
-    let bytes = stream(alloc)?;
-    for step in [1usize, 7, 60, 4096] {
-        let step = step.max(1);
-        let mut ins = MemInputs::new(alloc, step);
-        ins.add("stream", &bytes)?;
-        check_stream(&rt, &mut ins);
-        let mut ins = SureInputs::new(alloc, step);
-        ins.add("stream", &bytes)?;
-        check_stream(&rt, &mut ins);
+    streams_are_cut_frame_by_frame();
+    for step in [1, 7, 60, 4096] {
+        assert!(rt; comes_by(rt.alloc(), step)?, "in pieces of {step}");
+        assert!(rt; comes_lent_by(rt.alloc(), step)?, "lent by {step}");
     }
-    assert_eq!(rt; listed(alloc, RETIRE)?, Some((1, 1)));
     Ok(())
 }
 
@@ -294,25 +309,93 @@ fn arrival<S: Source>(src: &mut S, message: &mut Message) -> (Arrived, u64) {
     (answer, message.head.tag)
 }
 
+/// Whether that comes in this order.
+fn arrive<S: Source>(src: &mut S, message: &mut Message, wants: &[(Arrived, u64)]) -> bool {
+    for want in wants {
+        if arrival(src, message) != *want {
+            return false;
+        }
+    }
+    true
+}
+
+/// Whether a message of tag 1 is lent, and stays where the bytes spell none.
+fn stays(message: &mut Message) -> bool {
+    decode_into(TRAP, message) == Ok(()) && decode_into(b"", message) == Err(NO_LENGTH)
+}
+
+/// Whether the message that is lent is the one that came last, and stays where none comes.
+fn keeps_the_last<I: Inputs>(ins: &mut I, message: &mut Message) -> bool {
+    ins.attach(Slot::Stream, "stream") == Ok(true)
+        && arrive(ins, message, ARRIVE)
+        && stays(message)
+        && arrive(ins, message, STAY)
+}
+
+/// The messages of the stream.
+const ARRIVE: &[(Arrived, u64)] = &[
+    (Arrived::Message, 0),
+    (Arrived::Message, 1),
+    (Arrived::Message, 0),
+];
+
+/// What follows them.
+const STAY: &[(Arrived, u64)] = &[
+    (Arrived::Bad(NO_LENGTH), 1),
+    (Arrived::Bad(NO_LENGTH), 1),
+    (Arrived::Ended(3), 1),
+];
+
 #[test]
 fn leaves_the_message_where_there_is_none(rt: HostRuntime) -> Result<(), Fail> {
     let mut ins = SureInputs::new(rt.alloc(), 4096);
-    ins.add("stream", &stream(rt.alloc())?)?;
-    assert_eq!(rt; ins.attach(Slot::Stream, "stream"), Ok(true));
-    let Ok(mut message) = decode(SQUASH) else {
-        return Ok(assert!(rt; false, "no Squash"));
-    };
-    assert_eq!(rt; arrival(&mut ins, &mut message), (Arrived::Message, 0));
-    assert_eq!(rt; arrival(&mut ins, &mut message), (Arrived::Message, 1));
-    assert_eq!(rt; arrival(&mut ins, &mut message), (Arrived::Message, 0));
-    assert_eq!(rt; decode_into(TRAP, &mut message), Ok(()));
-    let broken = FrameFault {
-        form: Form::Length,
-        offset: 0,
-    };
-    assert_eq!(rt; decode_into(b"", &mut message), Err(broken));
-    assert_eq!(rt; arrival(&mut ins, &mut message), (Arrived::Bad(broken), 1));
-    assert_eq!(rt; arrival(&mut ins, &mut message), (Arrived::Bad(broken), 1));
-    assert_eq!(rt; arrival(&mut ins, &mut message), (Arrived::Ended(3), 1));
+    ins.add("stream", STREAM)?;
+    assert!(rt; keeps_the_last(&mut ins, &mut Message::blank()));
+    Ok(())
+}
+
+/// A message with this tag.
+fn tagged(tag: u64) -> Message {
+    let mut message = Message::blank();
+    message.head.tag = tag;
+    message
+}
+
+/// A list of so many messages, with the tags from 0 on.
+fn listed(alloc: Global, count: u64) -> Result<MessageList, AllocError> {
+    let mut list = MessageList::new(alloc);
+    for tag in 0..count {
+        list.push(tagged(tag))?;
+    }
+    Ok(list)
+}
+
+/// Whether the list has just so many messages, with the tags from 0 on.
+fn holds(list: &MessageList, count: u64) -> bool {
+    for tag in 0..count {
+        match list.get(tag as usize) {
+            Some(message) if message.head.tag == tag => {}
+            _ => return false,
+        }
+    }
+    list.len() as u64 == count && list.get(list.len()).is_none()
+}
+
+/// Whether so many messages come off the list, the last first, and then none.
+fn gives_back(list: &mut MessageList, count: u64) -> bool {
+    for taken in 0..count {
+        match list.pop() {
+            Some(message) if message.head.tag == count - 1 - taken => {}
+            _ => return false,
+        }
+    }
+    list.pop().is_none() && list.len() == 0
+}
+
+#[test]
+fn a_list_holds_ten_thousand_messages(rt: HostRuntime) -> Result<(), Fail> {
+    let mut list = listed(rt.alloc(), 10_000)?;
+    assert!(rt; holds(&list, 10_000));
+    assert!(rt; gives_back(&mut list, 10_000));
     Ok(())
 }

@@ -40,8 +40,8 @@ fn put_digits(out: &mut [u8], at: usize, n: u64, held: &mut [u8]) -> usize
     put(out, at, &held[start..])
 }
 
-// Spells the digits of the number in base 16 so that they end with the sixteen bytes, and answers
-// where they start.
+/// Spells the digits of the number in base 16 so that they end with the sixteen bytes, and answers
+/// where they start.
 pub(crate) fn spell_digits(n: u64, held: &mut [u8]) -> usize
     requires { length held.old ≡ 16 }
     ensures start { result < 16 }

@@ -9,7 +9,6 @@ use Rattle.verdict_report.specs.declared.fault.Fault.TheVariants.{TagOrder, Stra
 use Rattle.verdict_report.specs.declared.fault.Fault.TheVariants.{TornRead, MissingBypass, NextPc, Rd, Csr, AmoData}
 use Rattle.verdict_report.specs.declared.fault.Fault.TheVariants.{ScPair, LoadValue, Order, Atomicity, Unwritten}
 use Rattle.verdict_report.specs.declared.fault.Fault.TheVariants.{Unretired}
-use Rattle.verdict_report.specs.declared.fault.Fault.TheVariants.{Unbuilt}
 
 -- the number by which a line tells the fault
 abbrev pub fault_number : Fault → ℕ
@@ -43,7 +42,6 @@ fault_number (Order _ _ _) = 36
 fault_number (Atomicity _ _) = 37
 fault_number (Unwritten _ _) = 40
 fault_number (Unretired _) = 41
-fault_number Unbuilt = 99
 
 -- the name that follows it
 abbrev pub fault_name : Fault → List ℕ
@@ -77,4 +75,3 @@ fault_name (Order _ _ _) = codes "Order"
 fault_name (Atomicity _ _) = codes "Atomicity"
 fault_name (Unwritten _ _) = codes "Unwritten"
 fault_name (Unretired _) = codes "Unretired"
-fault_name Unbuilt = codes "Unbuilt"

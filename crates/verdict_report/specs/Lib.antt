@@ -1,3 +1,3 @@
+pub mod FaultValues
 pub mod Faults
 pub mod Lines
-pub mod Shown

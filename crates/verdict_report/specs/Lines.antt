@@ -21,7 +21,6 @@ use Rattle.verdict_report.specs.declared.fault.Fault.TheVariants.{TagOrder, Stra
 use Rattle.verdict_report.specs.declared.fault.Fault.TheVariants.{TornRead, MissingBypass, NextPc, Rd, Csr, AmoData}
 use Rattle.verdict_report.specs.declared.fault.Fault.TheVariants.{ScPair, LoadValue, Order, Atomicity, Unwritten}
 use Rattle.verdict_report.specs.declared.fault.Fault.TheVariants.{Unretired}
-use Rattle.verdict_report.specs.declared.fault.Fault.TheVariants.{Unbuilt}
 use Rattle.verdict_report.specs.declared.fault.RdWant.{RdWant}
 use Rattle.verdict_report.specs.declared.fault.RdWant.TheVariants.{Absent, Value, Nonzero, AtLeast}
 use Rattle.verdict_report.specs.declared.verdict.Limit.{Limit}
@@ -47,9 +46,9 @@ abbrev pub register_text : ℕ → List ℕ
 register_text number = codes "x" ++ decimal number ++ codes ":"
 
 -- a register with its value, or `-` for none
-abbrev pub rd_text : Option RdValue → List ℕ
-rd_text None = codes "-"
-rd_text (Some rd) = register_text rd.number ++ hexadecimal rd.value
+abbrev pub rd_value_text : Option RdValue → List ℕ
+rd_value_text None = codes "-"
+rd_value_text (Some rd) = register_text rd.number ++ hexadecimal rd.value
 
 -- the register and the values that are wanted of it
 abbrev pub rd_want_text : RdWant → List ℕ
@@ -59,9 +58,9 @@ rd_want_text (Nonzero number) = register_text number ++ codes "nonzero"
 rd_want_text (AtLeast rd) = register_text rd.number ++ codes "atleast:" ++ hexadecimal rd.value
 
 -- the number and the value of a CSR, or `-` for none
-abbrev pub csr_text : Option CsrValue → List ℕ
-csr_text None = codes "-"
-csr_text (Some csr) = hexadecimal csr.number ++ codes ":" ++ hexadecimal csr.value
+abbrev pub csr_value_text : Option CsrValue → List ℕ
+csr_value_text None = codes "-"
+csr_value_text (Some csr) = hexadecimal csr.number ++ codes ":" ++ hexadecimal csr.value
 
 -- a byte, or `-` for none
 abbrev pub byte_text : Option ℕ → List ℕ
@@ -111,8 +110,8 @@ detail_of (MissingRead at) = at_text at
 detail_of (TornRead at) = at_text at
 detail_of MissingBypass = []
 detail_of (NextPc want got) = differ (hexadecimal want) (hexadecimal got)
-detail_of (Rd want got) = differ (rd_want_text want) (rd_text got)
-detail_of (Csr index want got) = codes " index=" ++ decimal index ++ differ (csr_text want) (csr_text got)
+detail_of (Rd want got) = differ (rd_want_text want) (rd_value_text got)
+detail_of (Csr index want got) = codes " index=" ++ decimal index ++ differ (csr_value_text want) (csr_value_text got)
 detail_of (AmoData at want got) = byte_differs at want got
 detail_of ScPair = []
 detail_of (LoadValue at want got) = byte_differs at want got
@@ -122,7 +121,6 @@ detail_of (Order rule first second) =
 detail_of (Atomicity at store) = at_text at ++ codes " store=" ++ origin_text store
 detail_of (Unwritten store at) = codes " store=" ++ origin_text store ++ at_text at
 detail_of (Unretired bypass) = codes " bypass=" ++ origin_text bypass
-detail_of Unbuilt = []
 
 -- the number and the name of a fault
 abbrev pub fault_text : Fault → List ℕ
@@ -154,11 +152,11 @@ limit_hart_text Kept hart = decimal hart
 limit_hart_text Messages _ = codes "-"
 
 -- the line of a verdict
-abbrev pub line_of : Verdict → List ℕ
-line_of (Accept messages retired operations) =
+abbrev pub verdict_line : Verdict → List ℕ
+verdict_line (Accept messages retired operations) =
     codes "ACCEPT messages=" ++ decimal messages ++ codes " retired=" ++ decimal retired
     ++ codes " operations=" ++ decimal operations ++ newline
-line_of (Reject report) = report_text report ++ newline
-line_of (Undecided message limit hart count) =
+verdict_line (Reject report) = report_text report ++ newline
+verdict_line (Undecided message limit hart count) =
     codes "UNDECIDED message=" ++ decimal message ++ codes " limit=" ++ limit_text limit
     ++ codes " hart=" ++ limit_hart_text limit hart ++ codes " count=" ++ decimal count ++ newline

@@ -2,33 +2,17 @@
 
 ghost use Rattle.std.specs.Prelude.{◌≡◌, ◌+◌, ◌≤◌, ◌++◌, codes, length};
 ghost use Rattle.std.specs.Fmt.{decimal};
-ghost use Rattle.verdict_report.specs.Lines.{cause_text, csr_text, detail_of, differ, form_text, rd_text};
-ghost use Rattle.verdict_report.specs.Lines.{rd_want_text, register_text, byte_text, byte_differs, at_text};
-ghost use Rattle.verdict_report.specs.Lines.{origin_text, operation_text};
-ghost use Rattle.verdict_report.specs.Shown.{shown_text};
+ghost use Rattle.verdict_report.specs.Lines.{detail_of, differ, form_text, byte_differs, at_text, origin_text};
+ghost use Rattle.verdict_report.specs.Lines.{operation_text};
+ghost use Rattle.verdict_report.specs.FaultValues.{fault_value_text};
+ghost use Rattle.numerals.specs.Numerals.{hexadecimal};
 ghost use Rattle.tandem_base.specs.Puts.{Puts};
 
 use super::fault::{Fault, RdWant};
+use super::fault_values::{FaultValue, put_fault_value};
 use msg_frames::{CsrValue, Form, RdValue};
 use numerals::{put_decimal, put_hexadecimal};
 use tandem_base::{OpName, Origin, put};
-
-/// A value that a fault tells.
-#[derive(Clone, Copy)]
-pub enum Shown {
-    /// A number, in hexadecimal.
-    Number(u64),
-    /// The cause of a trap.
-    Cause(Option<u8>),
-    /// What is wanted of a register.
-    RdWant(RdWant),
-    /// A register with its value.
-    Rd(Option<RdValue>),
-    /// A CSR with its value.
-    Csr(Option<CsrValue>),
-    /// A byte of memory.
-    Byte(Option<u8>),
-}
 
 // The name of a form.
 fn form_name(form: Form) -> &'static [u8]
@@ -43,119 +27,24 @@ fn form_name(form: Form) -> &'static [u8]
     }
 }
 
-// Puts the cause of a trap.
-fn put_cause(out: &mut [u8], at: usize, cause: Option<u8>) -> usize
-    requires { at + 3 ≤ length out.old }
-    ensures puts { Puts at out.old result out.new (cause_text cause) }
-    ensures bound { result ≤ at + 3 }
+// Puts how a frame breaks the grammar.
+fn put_form(out: &mut [u8], at: usize, form: Form) -> usize
+    requires { at + 14 ≤ length out.old }
+    ensures puts { Puts at out.old result out.new (detail_of (Fault.BadFrame form)) }
+    ensures bound { result ≤ at + 14 }
 {
-    match cause {
-        None => put(out, at, b"-"),
-        Some(cause) => put_decimal(out, at, cause),
-    }
+    let end = put(out, at, b" form=");
+    put(out, end, form_name(form))
 }
 
-// Puts the name of a register and a colon.
-fn put_register(out: &mut [u8], at: usize, number: u8) -> usize
-    requires { at + 5 ≤ length out.old }
-    ensures puts { Puts at out.old result out.new (register_text number) }
-    ensures bound { result ≤ at + 5 }
+// Puts how many bytes of a frame came.
+fn put_have(out: &mut [u8], at: usize, have: u16) -> usize
+    requires { at + 11 ≤ length out.old }
+    ensures puts { Puts at out.old result out.new (detail_of (Fault.Truncated have)) }
+    ensures bound { result ≤ at + 11 }
 {
-    let end = put(out, at, b"x");
-    let end = put_decimal(out, end, number);
-    put(out, end, b":")
-}
-
-// Puts a register and its value.
-fn put_rd(out: &mut [u8], at: usize, rd: Option<RdValue>) -> usize
-    requires { at + 23 ≤ length out.old }
-    ensures puts { Puts at out.old result out.new (rd_text rd) }
-    ensures bound { result ≤ at + 23 }
-{
-    match rd {
-        None => put(out, at, b"-"),
-        Some(rd) => {
-            let end = put_register(out, at, rd.number);
-            put_hexadecimal(out, end, rd.value)
-        }
-    }
-}
-
-// Puts a register and the values that are wanted of it.
-fn put_rd_want(out: &mut [u8], at: usize, want: RdWant) -> usize
-    requires { at + 31 ≤ length out.old }
-    ensures puts { Puts at out.old result out.new (rd_want_text want) }
-    ensures bound { result ≤ at + 31 }
-{
-    match want {
-        RdWant::Absent => put(out, at, b"-"),
-        RdWant::Value(rd) => put_rd(out, at, Some(rd)),
-        RdWant::Nonzero(number) => {
-            let end = put_register(out, at, number);
-            put(out, end, b"nonzero")
-        }
-        RdWant::AtLeast(rd) => {
-            let end = put_register(out, at, rd.number);
-            let end = put(out, end, b"atleast:");
-            put_hexadecimal(out, end, rd.value)
-        }
-    }
-}
-
-// Puts the number and the value of a CSR.
-fn put_csr(out: &mut [u8], at: usize, csr: Option<CsrValue>) -> usize
-    requires { at + 37 ≤ length out.old }
-    ensures puts { Puts at out.old result out.new (csr_text csr) }
-    ensures bound { result ≤ at + 37 }
-{
-    match csr {
-        None => put(out, at, b"-"),
-        Some(csr) => {
-            let end = put_hexadecimal(out, at, u64::from(csr.number));
-            let end = put(out, end, b":");
-            put_hexadecimal(out, end, csr.value)
-        }
-    }
-}
-
-// Puts a byte of memory.
-fn put_byte(out: &mut [u8], at: usize, byte: Option<u8>) -> usize
-    requires { at + 18 ≤ length out.old }
-    ensures puts { Puts at out.old result out.new (byte_text byte) }
-    ensures bound { result ≤ at + 18 }
-{
-    match byte {
-        None => put(out, at, b"-"),
-        Some(byte) => put_hexadecimal(out, at, u64::from(byte)),
-    }
-}
-
-// Puts a value that a fault tells.
-fn put_shown(out: &mut [u8], at: usize, shown: Shown) -> usize
-    requires { at + 37 ≤ length out.old }
-    ensures puts { Puts at out.old result out.new (shown_text shown) }
-    ensures bound { result ≤ at + 37 }
-{
-    match shown {
-        Shown::Number(number) => put_hexadecimal(out, at, number),
-        Shown::Cause(cause) => put_cause(out, at, cause),
-        Shown::RdWant(want) => put_rd_want(out, at, want),
-        Shown::Rd(rd) => put_rd(out, at, rd),
-        Shown::Csr(csr) => put_csr(out, at, csr),
-        Shown::Byte(byte) => put_byte(out, at, byte),
-    }
-}
-
-// Puts two values that differ: the reference model's, then the reported one.
-fn put_differing(out: &mut [u8], at: usize, want: Shown, got: Shown) -> usize
-    requires { at + 85 ≤ length out.old }
-    ensures puts { Puts at out.old result out.new (differ (shown_text want) (shown_text got)) }
-    ensures bound { result ≤ at + 85 }
-{
-    let end = put(out, at, b" want=");
-    let end = put_shown(out, end, want);
-    let end = put(out, end, b" got=");
-    put_shown(out, end, got)
+    let end = put(out, at, b" have=");
+    put_decimal(out, end, have)
 }
 
 // Puts the last value that a fault tells.
@@ -166,6 +55,72 @@ fn put_last(out: &mut [u8], at: usize, last: u64) -> usize
 {
     let end = put(out, at, b" last=");
     put_decimal(out, end, last)
+}
+
+// Puts the tag of a Bypass.
+fn put_bypass(out: &mut [u8], at: usize, tag: u64) -> usize
+    requires { at + 28 ≤ length out.old }
+    ensures puts { Puts at out.old result out.new (detail_of (Fault.StrayBypass tag)) }
+    ensures bound { result ≤ at + 28 }
+{
+    let end = put(out, at, b" bypass=");
+    put_decimal(out, end, tag)
+}
+
+// Puts two values that differ: the reference model's, then the reported one.
+fn put_differing(out: &mut [u8], at: usize, want: FaultValue, got: FaultValue) -> usize
+    requires { at + 85 ≤ length out.old }
+    ensures puts { Puts at out.old result out.new (differ (fault_value_text want) (fault_value_text got)) }
+    ensures bound { result ≤ at + 85 }
+{
+    let end = put(out, at, b" want=");
+    let end = put_fault_value(out, end, want);
+    let end = put(out, end, b" got=");
+    put_fault_value(out, end, got)
+}
+
+// Puts two numbers that differ.
+fn put_numbers(out: &mut [u8], at: usize, want: u64, got: u64) -> usize
+    requires { at + 85 ≤ length out.old }
+    ensures puts { Puts at out.old result out.new (differ (hexadecimal want) (hexadecimal got)) }
+    ensures bound { result ≤ at + 85 }
+{
+    put_differing(out, at, FaultValue::Number(want), FaultValue::Number(got))
+}
+
+// Puts two causes of traps that differ.
+fn put_causes(out: &mut [u8], at: usize, want: Option<u8>, got: Option<u8>) -> usize
+    requires { at + 85 ≤ length out.old }
+    ensures puts { Puts at out.old result out.new (detail_of (Fault.Trap want got)) }
+    ensures bound { result ≤ at + 85 }
+{
+    put_differing(out, at, FaultValue::Cause(want), FaultValue::Cause(got))
+}
+
+// Puts two registers that differ.
+fn put_rds(out: &mut [u8], at: usize, want: RdWant, got: Option<RdValue>) -> usize
+    requires { at + 85 ≤ length out.old }
+    ensures puts { Puts at out.old result out.new (detail_of (Fault.Rd want got)) }
+    ensures bound { result ≤ at + 85 }
+{
+    put_differing(out, at, FaultValue::RdWant(want), FaultValue::Rd(got))
+}
+
+// Puts two CSRs that differ, with their place in the lists.
+fn put_csrs(
+    out: &mut [u8],
+    at: usize,
+    index: u8,
+    want: Option<CsrValue>,
+    got: Option<CsrValue>,
+) -> usize
+    requires { at + 107 ≤ length out.old }
+    ensures puts { Puts at out.old result out.new (detail_of (Fault.Csr index want got)) }
+    ensures bound { result ≤ at + 107 }
+{
+    let end = put(out, at, b" index=");
+    let end = put_decimal(out, end, index);
+    put_differing(out, end, FaultValue::Csr(want), FaultValue::Csr(got))
 }
 
 // Puts the address of a byte.
@@ -191,7 +146,7 @@ fn put_byte_differs(
     ensures bound { result ≤ at + 107 }
 {
     let end = put_address(out, at, addr);
-    put_differing(out, end, Shown::Byte(want), Shown::Byte(got))
+    put_differing(out, end, FaultValue::Byte(want), FaultValue::Byte(got))
 }
 
 // Puts the name of an instruction.
@@ -232,92 +187,71 @@ fn put_order(out: &mut [u8], at: usize, rule: u8, first: OpName, second: OpName)
     put_operation(out, end, second)
 }
 
+// Puts the byte of an SC, and the store of another hart.
+fn put_atomicity(out: &mut [u8], at: usize, addr: u64, store: Origin) -> usize
+    requires { at + 60 ≤ length out.old }
+    ensures puts { Puts at out.old result out.new (detail_of (Fault.Atomicity addr store)) }
+    ensures bound { result ≤ at + 60 }
+{
+    let end = put_address(out, at, addr);
+    let end = put(out, end, b" store=");
+    put_origin(out, end, store)
+}
+
+// Puts a store, and its byte that isn't performed.
+fn put_unwritten(out: &mut [u8], at: usize, store: Origin, addr: u64) -> usize
+    requires { at + 60 ≤ length out.old }
+    ensures puts { Puts at out.old result out.new (detail_of (Fault.Unwritten store addr)) }
+    ensures bound { result ≤ at + 60 }
+{
+    let end = put(out, at, b" store=");
+    let end = put_origin(out, end, store);
+    put_address(out, end, addr)
+}
+
+// Puts an early Bypass that has not retired.
+fn put_unretired(out: &mut [u8], at: usize, bypass: Origin) -> usize
+    requires { at + 32 ≤ length out.old }
+    ensures puts { Puts at out.old result out.new (detail_of (Fault.Unretired bypass)) }
+    ensures bound { result ≤ at + 32 }
+{
+    let end = put(out, at, b" bypass=");
+    put_origin(out, end, bypass)
+}
+
 /// Puts what a line tells of a fault beside its number and name.
-pub fn put_detail(out: &mut [u8], at: usize, fault: &Fault) -> usize
-    requires { at + 107 ≤ length out.old }
-    ensures puts { Puts at out.old result out.new (detail_of fault.now) }
-    ensures bound { result ≤ at + 107 }
+pub fn put_detail(out: &mut [u8], from: usize, fault: &Fault) -> usize
+    requires { from + 107 ≤ length out.old }
+    ensures puts { Puts from out.old result out.new (detail_of fault.now) }
+    ensures bound { result ≤ from + 107 }
 {
     match *fault {
-        Fault::BadFrame { form } => {
-            let end = put(out, at, b" form=");
-            put(out, end, form_name(form))
-        }
-        Fault::Truncated { have } => {
-            let end = put(out, at, b" have=");
-            put_decimal(out, end, have)
-        }
+        Fault::BadFrame { form } => put_form(out, from, form),
+        Fault::Truncated { have } => put_have(out, from, have),
         Fault::TimeBack { last } | Fault::LateTag { last } | Fault::TagOrder { last } => {
-            put_last(out, at, last)
+            put_last(out, from, last)
         }
-        Fault::StoreData {
-            at: addr,
-            want,
-            got,
-        }
-        | Fault::MergeMismatch {
-            at: addr,
-            want,
-            got,
-        }
-        | Fault::AmoData {
-            at: addr,
-            want,
-            got,
-        }
-        | Fault::LoadValue {
-            at: addr,
-            want,
-            got,
-        } => put_byte_differs(out, at, addr, want, got),
-        Fault::StrayBypass { bypass } => {
-            let end = put(out, at, b" bypass=");
-            put_decimal(out, end, bypass)
-        }
-        Fault::Pc { want, got } | Fault::NextPc { want, got } => {
-            put_differing(out, at, Shown::Number(want), Shown::Number(got))
-        }
-        Fault::Word { want, got } => {
-            let (want, got) = (u64::from(want), u64::from(got));
-            put_differing(out, at, Shown::Number(want), Shown::Number(got))
-        }
-        Fault::Trap { want, got } => put_differing(out, at, Shown::Cause(want), Shown::Cause(got)),
-        Fault::MissingRead { at: addr } | Fault::TornRead { at: addr } => put_address(
-            out, at, addr,
-        ),
-        Fault::Rd { want, got } => put_differing(out, at, Shown::RdWant(want), Shown::Rd(got)),
-        Fault::Csr { index, want, got } => {
-            let end = put(out, at, b" index=");
-            let end = put_decimal(out, end, index);
-            put_differing(out, end, Shown::Csr(want), Shown::Csr(got))
-        }
+        Fault::StoreData { at, want, got }
+        | Fault::MergeMismatch { at, want, got }
+        | Fault::AmoData { at, want, got }
+        | Fault::LoadValue { at, want, got } => put_byte_differs(out, from, at, want, got),
+        Fault::StrayBypass { bypass } => put_bypass(out, from, bypass),
+        Fault::Pc { want, got } | Fault::NextPc { want, got } => put_numbers(out, from, want, got),
+        Fault::Word { want, got } => put_numbers(out, from, u64::from(want), u64::from(got)),
+        Fault::Trap { want, got } => put_causes(out, from, want, got),
+        Fault::MissingRead { at } | Fault::TornRead { at } => put_address(out, from, at),
+        Fault::Rd { want, got } => put_rds(out, from, want, got),
+        Fault::Csr { index, want, got } => put_csrs(out, from, index, want, got),
         Fault::Order {
             rule,
             first,
             second,
-        } => put_order(out, at, rule, first, second),
-        Fault::Atomicity { at: addr, store } => {
-            let end = put_address(out, at, addr);
-            let end = put(out, end, b" store=");
-            put_origin(out, end, store)
-        }
-        Fault::Unwritten { store, at: addr } => {
-            let end = put(out, at, b" store=");
-            let end = put_origin(out, end, store);
-            put_address(out, end, addr)
-        }
-        Fault::Unretired { bypass } => {
-            let end = put(out, at, b" bypass=");
-            put_origin(out, end, bypass)
-        }
-        Fault::BadOpen
-        | Fault::BadHart
-        | Fault::BadRange
-        | Fault::UnknownStore
-        | Fault::TornStore
-        | Fault::LatePoke
-        | Fault::MissingBypass
-        | Fault::ScPair
-        | Fault::Unbuilt => put(out, at, b""),
+        } => put_order(out, from, rule, first, second),
+        Fault::Atomicity { at, store } => put_atomicity(out, from, at, store),
+        Fault::Unwritten { store, at } => put_unwritten(out, from, store, at),
+        Fault::Unretired { bypass } => put_unretired(out, from, bypass),
+        Fault::BadOpen | Fault::BadHart | Fault::BadRange | Fault::LatePoke => put(out, from, b""),
+        Fault::UnknownStore | Fault::TornStore | Fault::MissingBypass => put(out, from, b""),
+        Fault::ScPair => put(out, from, b""),
     }
 }

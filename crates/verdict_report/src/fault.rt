@@ -146,8 +146,6 @@ pub enum Fault {
     Unretired {
         bypass: Origin,
     },
-    /// The message or instruction is of a kind that isn't judged yet.
-    Unbuilt,
 }
 
 impl Fault {
@@ -189,7 +187,6 @@ impl Fault {
             Fault::Atomicity { .. } => 37,
             Fault::Unwritten { .. } => 40,
             Fault::Unretired { .. } => 41,
-            Fault::Unbuilt => 99,
         }
     }
 
@@ -229,7 +226,6 @@ impl Fault {
             Fault::Atomicity { .. } => b"Atomicity",
             Fault::Unwritten { .. } => b"Unwritten",
             Fault::Unretired { .. } => b"Unretired",
-            Fault::Unbuilt => b"Unbuilt",
         }
     }
 }

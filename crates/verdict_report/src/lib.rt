@@ -3,6 +3,7 @@
 
 mod detail;
 mod fault;
+mod fault_values;
 mod printing;
 #[cfg(test)]
 mod tests;

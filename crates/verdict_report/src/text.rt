@@ -1,7 +1,8 @@
 //! The line of a verdict.
 
-ghost use Rattle.std.specs.Prelude.{◌≡◌, ◌+◌, ◌≤◌, length, take};
-ghost use Rattle.verdict_report.specs.Lines.{fault_text, head_text, limit_hart_text, limit_text, line_of, report_text};
+ghost use Rattle.std.specs.Prelude.{◌≡◌, ◌+◌, ◌≤◌, length, take, drop};
+ghost use Rattle.verdict_report.specs.Lines.{fault_text, head_text, limit_hart_text, limit_text};
+ghost use Rattle.verdict_report.specs.Lines.{verdict_line, report_text};
 ghost use Rattle.tandem_base.specs.Puts.{Puts};
 
 use super::detail::put_detail;
@@ -14,9 +15,10 @@ use tandem_base::put;
 /// Puts the verdict's line, with its newline, at the front of `out` and answers its length. Every
 /// line fits.
 pub fn line(verdict: &Verdict, out: &mut [u8; 256]) -> usize
-    ensures length { result ≡ length (line_of verdict.now) }
-    ensures text { take result out.new ≡ line_of verdict.now }
+    ensures length { result ≡ length (verdict_line verdict.now) }
+    ensures text { take result out.new ≡ verdict_line verdict.now }
     ensures fits { result ≤ 256 }
+    ensures rest { drop result out.new ≡ drop result out.old }
 {
     put_line(out, 0, verdict)
 }
@@ -24,7 +26,7 @@ pub fn line(verdict: &Verdict, out: &mut [u8; 256]) -> usize
 /// Puts the verdict's line, with its newline, at `at` and answers where it ends.
 pub(crate) fn put_line(out: &mut [u8], at: usize, verdict: &Verdict) -> usize
     requires { at + 256 ≤ length out.old }
-    ensures puts { Puts at out.old result out.new (line_of verdict.now) }
+    ensures puts { Puts at out.old result out.new (verdict_line verdict.now) }
     ensures bound { result ≤ at + 256 }
 {
     match *verdict {
@@ -49,7 +51,7 @@ pub(crate) fn put_line(out: &mut [u8], at: usize, verdict: &Verdict) -> usize
 // Puts the line of an acceptance.
 fn put_accept(out: &mut [u8], at: usize, messages: u64, retired: u64, operations: u64) -> usize
     requires { at + 256 ≤ length out.old }
-    ensures puts { Puts at out.old result out.new (line_of (Verdict.Accept messages retired operations)) }
+    ensures puts { Puts at out.old result out.new (verdict_line (Verdict.Accept messages retired operations)) }
     ensures bound { result ≤ at + 256 }
 {
     let end = put(out, at, b"ACCEPT messages=");
@@ -71,7 +73,7 @@ fn put_undecided(
     count: u64,
 ) -> usize
     requires { at + 256 ≤ length out.old }
-    ensures puts { Puts at out.old result out.new (line_of (Verdict.Undecided message limit hart count)) }
+    ensures puts { Puts at out.old result out.new (verdict_line (Verdict.Undecided message limit hart count)) }
     ensures bound { result ≤ at + 256 }
 {
     let end = put(out, at, b"UNDECIDED message=");

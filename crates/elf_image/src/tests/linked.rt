@@ -1,6 +1,7 @@
 //! A file as a linker makes it: notes, attributes and the stack's flags stand between the segments
 //! to be loaded, and sections follow.
 
+use super::{Place, wrong_place};
 use crate::Image;
 use std::alloc::{AllocError, Global};
 use std::test::Fail;
@@ -29,13 +30,13 @@ struct Section {
 const START: &[u8] = b"\x7fELF\x02\x01\x01\0\0\0\0\0\0\0\0\0\x02\0\xf3\0\x01\0\0\0";
 
 /// e_entry, e_phoff and e_shoff.
-const PLACES: [u64; 3] = [0x8000_0000, 64, 0x11e0];
+const PLACES: &[u64] = &[0x8000_0000, 64, 0x11e0];
 
 /// e_flags, the ABI with floating-point registers for doubles.
 const FLAGS: u32 = 4;
 
 /// e_ehsize, e_phentsize, e_phnum, e_shentsize, e_shnum and e_shstrndx.
-const SIZES: [u16; 6] = [64, 56, 5, 64, 7, 6];
+const SIZES: &[u16] = &[64, 56, 5, 64, 7, 6];
 
 const PROGRAMS: &[Program] = &[
     // PT_RISCV_ATTRIBUTES
@@ -183,41 +184,59 @@ const SECTIONS: &[Section] = &[
     },
 ];
 
-fn put_header(file: &mut Vec<u8>) -> Result<(), AllocError> {
-    file.extend_from_slice(START)?;
-    for place in PLACES {
-        file.extend_from_slice(&place.to_le_bytes())?;
+/// Writes the bytes at an offset of the file, if they fit.
+fn write(file: &mut [u8], at: usize, bytes: &[u8]) {
+    if let Some(part) = file.get_mut(at..at.saturating_add(bytes.len())) {
+        part.copy_from_slice(bytes);
     }
-    file.extend_from_slice(&FLAGS.to_le_bytes())?;
-    for size in SIZES {
-        file.extend_from_slice(&size.to_le_bytes())?;
-    }
-    Ok(())
 }
 
-fn put_programs(file: &mut Vec<u8>) -> Result<(), AllocError> {
-    for program in PROGRAMS {
-        file.extend_from_slice(&program.kind.to_le_bytes())?;
-        file.extend_from_slice(&program.flags.to_le_bytes())?;
-        for field in [
+fn write_halves(file: &mut [u8], at: usize, halves: &[u16]) {
+    let mut next = at;
+    for half in halves {
+        write(file, next, &half.to_le_bytes());
+        next = next.saturating_add(2);
+    }
+}
+
+fn write_words(file: &mut [u8], at: usize, words: &[u32]) {
+    let mut next = at;
+    for word in words {
+        write(file, next, &word.to_le_bytes());
+        next = next.saturating_add(4);
+    }
+}
+
+fn write_fields(file: &mut [u8], at: usize, fields: &[u64]) {
+    let mut next = at;
+    for field in fields {
+        write(file, next, &field.to_le_bytes());
+        next = next.saturating_add(8);
+    }
+}
+
+fn write_program(file: &mut [u8], at: usize, program: &Program) {
+    write_words(file, at, &[program.kind, program.flags]);
+    write_fields(
+        file,
+        at.saturating_add(8),
+        &[
             program.offset,
             program.address,
             program.address,
             program.file_size,
             program.size,
             program.align,
-        ] {
-            file.extend_from_slice(&field.to_le_bytes())?;
-        }
-    }
-    Ok(())
+        ],
+    );
 }
 
-fn put_sections(file: &mut Vec<u8>) -> Result<(), AllocError> {
-    for section in SECTIONS {
-        file.extend_from_slice(&section.name.to_le_bytes())?;
-        file.extend_from_slice(&section.kind.to_le_bytes())?;
-        for field in [
+fn write_section(file: &mut [u8], at: usize, section: &Section) {
+    write_words(file, at, &[section.name, section.kind]);
+    write_fields(
+        file,
+        at.saturating_add(8),
+        &[
             section.flags,
             section.address,
             section.offset,
@@ -225,75 +244,94 @@ fn put_sections(file: &mut Vec<u8>) -> Result<(), AllocError> {
             0,
             section.align,
             0,
-        ] {
-            file.extend_from_slice(&field.to_le_bytes())?;
-        }
-    }
-    Ok(())
+        ],
+    );
 }
 
-fn put_words(file: &mut Vec<u8>, words: &[u32]) -> Result<(), AllocError> {
-    for word in words {
-        file.extend_from_slice(&word.to_le_bytes())?;
+fn write_programs(file: &mut [u8], at: usize) {
+    let mut next = at;
+    for program in PROGRAMS {
+        write_program(file, next, program);
+        next = next.saturating_add(56);
     }
-    Ok(())
+}
+
+fn write_sections(file: &mut [u8], at: usize) {
+    let mut next = at;
+    for section in SECTIONS {
+        write_section(file, next, section);
+        next = next.saturating_add(64);
+    }
+}
+
+fn write_header(file: &mut [u8]) {
+    write(file, 0, START);
+    write_fields(file, 24, PLACES);
+    write_words(file, 48, &[FLAGS]);
+    write_halves(file, 52, SIZES);
+}
+
+fn write_contents(file: &mut [u8]) {
+    write_words(file, 0x1000, TEXT);
+    write_words(file, 0x101c, DATA);
+    write(file, 0x1158, NOTE);
+    write(file, 0x116c, ATTRIBUTES);
+    write(file, 0x11a3, NAMES);
 }
 
 fn linked(alloc: Global) -> Result<Vec<u8>, AllocError> {
     let mut file = Vec::new(alloc);
-    put_header(&mut file)?;
-    put_programs(&mut file)?;
-    file.resize(0x1000, 0)?;
-    put_words(&mut file, TEXT)?;
-    put_words(&mut file, DATA)?;
-    file.resize(0x1158, 0)?;
-    file.extend_from_slice(NOTE)?;
-    file.extend_from_slice(ATTRIBUTES)?;
-    file.extend_from_slice(NAMES)?;
-    file.resize(0x11e0, 0)?;
-    put_sections(&mut file)?;
+    file.resize(5024, 0)?;
+    write_header(&mut file);
+    write_programs(&mut file, 64);
+    write_contents(&mut file);
+    write_sections(&mut file, 0x11e0);
     Ok(file)
+}
+
+/// What is loaded and what isn't.
+const LOADED: &[Place] = &[
+    (0x8000_0000, Some(0x17), Some(0x1517)),
+    (0x8000_0004, Some(0x13), Some(0x01c5_0513)),
+    (0x8000_0008, Some(0x83), Some(0x0005_2583)),
+    (0x8000_000c, Some(0x17), Some(0x1617)),
+    (0x8000_0010, Some(0x13), Some(0x01c6_0613)),
+    (0x8000_0014, Some(0x23), Some(0x00b6_2023)),
+    (0x8000_0018, Some(0x6f), Some(0x6f)),
+    (0x8000_0019, Some(0), None),
+    (0x8000_101c, Some(0x78), Some(0x1234_5678)),
+    (0x8000_1020, Some(7), Some(7)),
+    (0x8000_1023, Some(0), Some(0)),
+    (0x8000_103c, Some(0), Some(0)),
+    (0x8000_103d, Some(0), None),
+    (0, None, None),
+    (0x1000, None, None),
+    (0x116c, None, None),
+    (0x1_0158, None, None),
+    (0x1_016b, None, None),
+    (0x7fff_ffff, None, None),
+    (0x8000_001c, None, None),
+    (0x8000_101b, None, None),
+    (0x8000_1040, None, None),
+    (0x8000_1158, None, None),
+];
+
+/// The first address of .bss at which the image has no zero.
+fn wrong_zero(image: &Image) -> Option<u64> {
+    for addr in 0x8000_1024..0x8000_1040 {
+        if image.byte(addr) != Some(0) {
+            return Some(addr);
+        }
+    }
+    None
 }
 
 #[test]
 fn loads_the_segments_of_a_linked_file(rt: HostRuntime) -> Result<(), Fail> {
     let file = linked(rt.alloc())?;
-    assert_eq!(rt; file.len(), 5024);
     let image = Image::read_elf(rt.alloc(), &file, &[]).map_err(|_| "no image")?;
     assert_eq!(rt; image.entry(), 0x8000_0000);
-    for (addr, word) in [
-        (0x8000_0000, Some(0x1517)),
-        (0x8000_0004, Some(0x01c5_0513)),
-        (0x8000_0008, Some(0x0005_2583)),
-        (0x8000_000c, Some(0x1617)),
-        (0x8000_0010, Some(0x01c6_0613)),
-        (0x8000_0014, Some(0x00b6_2023)),
-        (0x8000_0018, Some(0x6f)),
-        (0x8000_0019, None),
-        (0x8000_101c, Some(0x1234_5678)),
-        (0x8000_1020, Some(7)),
-        (0x8000_1023, Some(0)),
-        (0x8000_103c, Some(0)),
-        (0x8000_103d, None),
-    ] {
-        assert_eq!(rt; image.word(addr), word, "at {addr:x}");
-    }
-    for addr in 0x8000_1024..0x8000_1040 {
-        assert_eq!(rt; image.byte(addr), Some(0), "at {addr:x}");
-    }
-    for addr in [
-        0,
-        0x1000,
-        0x116c,
-        0x1_0158,
-        0x1_016b,
-        0x7fff_ffff,
-        0x8000_001c,
-        0x8000_101b,
-        0x8000_1040,
-        0x8000_1158,
-    ] {
-        assert_eq!(rt; image.byte(addr), None, "at {addr:x}");
-    }
+    assert_eq!(rt; wrong_place(&image, LOADED), None);
+    assert_eq!(rt; wrong_zero(&image), None);
     Ok(())
 }

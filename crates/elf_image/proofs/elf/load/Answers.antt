@@ -1,5 +1,5 @@
 use Rattle.std.proofs.Common.{◌≡◌, ◌∙◌, ◌+◌, length, map, sum_by, sym, ap, None, Ok}
-use Rattle.elf_image.specs.Elf.{entry_of, segment_of, loads_image, overlap_fault, segment_fault}
+use Rattle.elf_image.specs.Elf.{entry_address, segment_of, loads_image, overlap_fault, segment_fault}
 use Rattle.elf_image.specs.Faults.{limit_fault}
 use Rattle.elf_image.specs.Rams.{span_of}
 use Rattle.elf_image.specs.Tables.{segment_in}
@@ -21,5 +21,5 @@ returns c =
     let once : overlap_fault loads ≡ None = none_wrong _ tt (c.in_ok-check_overlap.ensures {u = tt}) in
     loads_read (length bytes) loads rams (loads_image bytes loads rams) placed limits once
     ∙ ap (λ i. Ok i)
-    (sym (over ∙ same_segments (entry_of bytes) (map (segment_in bytes) c.in_ok-segments.segments.items)
+    (sym (over ∙ same_segments (entry_address bytes) (map (segment_in bytes) c.in_ok-segments.segments.items)
     (map (segment_of bytes) loads) (map span_of rams) (λ x. (c.in_ok-segments.ensures {u = tt}).same bytes x)))

@@ -1,10 +1,10 @@
 use Rattle.std.proofs.Common.{◌≡◌, ◌≤◌, ◌<◌, ◌-◌, false, length, take}
-use Rattle.msg_frames.specs.Taking.{Took}
+use Rattle.msg_frames.specs.Taking.{TakenFrom}
 use Rattle.msg_frames.proofs.source.fill.Given as goal
 
 abbrev pub invariant-loop-have : goal.invariant-loop-have
 invariant-loop-have g l = record {
-  took : Took (g.S.Source.left l.fn.src) (g.S.Source.left l.src) (g.S.Source.log l.fn.src) (g.S.Source.log l.src)
+  took : TakenFrom (g.S.Source.left l.fn.src) (g.S.Source.left l.src) (g.S.Source.log l.fn.src) (g.S.Source.log l.src)
       (take l.have l.buf);
   inside : l.have ≤ length l.buf;
   running : 0 < l.have → g.S.Source.ended l.src ≡ false;

@@ -1,4 +1,4 @@
-use Rattle.elf_image.proofs.Found.{held_in_segment, held_in_ram, byte_of-none}
+use Rattle.elf_image.proofs.Found.{held_in_segment, held_in_ram, image_byte-none}
 use Rattle.elf_image.proofs.image.Image.run_at.Goals as goal
 
 pub returns-in_err-locate-in-None-clause-none : goal.returns-in_err-locate-in-None-clause-none
@@ -6,7 +6,7 @@ returns-in_err-locate-in-None-clause-none c =
     let image = c.self.inside in
     let outside = rw c.deref.ensures.value at (c.in-None.ensures {u = tt}).none in
     let outside' = rw c.deref-in-None.ensures.value at (c.in_err-locate-in-None.ensures {u = tt}).none in
-    let none = byte_of-none image.entry image.segments.items image.rams.items image.file.items
+    let none = image_byte-none image.entry image.segments.items image.rams.items image.file.items
     c.args.addr outside outside' in
     rw c.from_residual.ensures (rw c.self.view_is at none)
 

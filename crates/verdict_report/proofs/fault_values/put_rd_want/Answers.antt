@@ -1,6 +1,6 @@
 use Rattle.std.proofs.Common.{refl}
 use Rattle.tandem_base.proofs.PutsLaws.{puts_then, puts_as}
-use Rattle.verdict_report.proofs.detail.put_rd_want.Goals as goal
+use Rattle.verdict_report.proofs.fault_values.put_rd_want.Goals as goal
 
 pub returns-in-Nonzero-clause-puts : goal.returns-in-Nonzero-clause-puts
 returns-in-Nonzero-clause-puts c =

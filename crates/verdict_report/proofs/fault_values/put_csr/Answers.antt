@@ -1,6 +1,6 @@
 use Rattle.std.proofs.Common.{refl}
 use Rattle.tandem_base.proofs.PutsLaws.{puts_then, puts_as}
-use Rattle.verdict_report.proofs.detail.put_csr.Goals as goal
+use Rattle.verdict_report.proofs.fault_values.put_csr.Goals as goal
 
 pub returns-in-Some-clause-puts : goal.returns-in-Some-clause-puts
 returns-in-Some-clause-puts c =

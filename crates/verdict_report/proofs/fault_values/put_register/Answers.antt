@@ -1,5 +1,5 @@
 use Rattle.tandem_base.proofs.PutsLaws.{puts_then}
-use Rattle.verdict_report.proofs.detail.put_register.Goals as goal
+use Rattle.verdict_report.proofs.fault_values.put_register.Goals as goal
 
 pub returns-clause-puts : goal.returns-clause-puts
 returns-clause-puts c = puts_then (puts_then c.put-end.ensures c.put_decimal-end.ensures.puts) c.put.ensures

@@ -1,0 +1,5 @@
+use Rattle.tandem_base.proofs.PutsLaws.{puts_then}
+use Rattle.verdict_report.proofs.detail.put_form.Goals as goal
+
+pub returns-clause-puts : goal.returns-clause-puts
+returns-clause-puts c = puts_then c.put-end.ensures (rw c.form_name.ensures.name at c.put.ensures)
