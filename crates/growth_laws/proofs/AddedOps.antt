@@ -12,11 +12,11 @@ use Rattle.rvwmo_model.specs.declared.traces.Trace.{Trace}
 use Rattle.tandem_base.specs.Extents.{Covers}
 use Rattle.rvwmo_model.specs.Order.{has_byte}
 use Rattle.rvwmo_model.specs.ProgramOrder.{insn_of, is_one}
-use Rattle.rvwmo_model.specs.Atomicity.{IsPair, IsWithin}
+use Rattle.rvwmo_model.specs.Atomicity.{IsPair, IsCoveredBy}
 use Rattle.rvwmo_model.specs.InForm.{IsPlaced}
 use Rattle.rvwmo_model.proofs.Membership.{nothing_in}
 use Rattle.rv_decode.specs.Kinds.{is_store, is_lr, is_sc, is_amo_or_sc}
-use Rattle.growth_laws.specs.Kinds.{kind_of_insn, kind_of, SameInsn, IsNamed, IsPlainStore}
+use Rattle.growth_laws.specs.Kinds.{kind_of_insn, kind_of_retired, SameInsn, IsNamed, IsPlainStore}
 use Rattle.growth_laws.specs.Kinds.{IsPlainAnnotated, WellKinded}
 use Rattle.growth_laws.specs.Growth.{AddsStore, Adds, adds_loads, adds_store, adds_atomic, adds_nothing, AddInsn}
 use Rattle.growth_laws.proofs.Places.{not_both}
@@ -49,7 +49,7 @@ pub load_store : (i : Insn) (stored : Bool) → kind_of_insn i stored ≡ Some k
 load_store (Store op rs1 rs2 imm) stored e q = let c : Some kind.Store ≡ Some kind.Load = e in cc
 load_store _ stored e q = false≢true q
 
-pub stored_kind : (r : Retired) → has_stored (Some r) ≡ true → kind_of r ≡ Some kind.Store
+pub stored_kind : (r : Retired) → has_stored (Some r) ≡ true → kind_of_retired r ≡ Some kind.Store
 stored_kind r e =
     let p = and_parts (is_sc r.insn) r.stored e in
     ap (kind_of_insn r.insn) p.1 ∙ sc_kind r.insn p.0
@@ -170,8 +170,8 @@ module _ (t t' : Trace) (r : Retired) (new : List Op) (k : WellKinded t) (s : Ad
   named_of a (inl h) = (r, new_insn a h)
   named_of a (inr h) = let w = k.form.named a h in (w.0, old_insn a h ∙ w.1)
 
-  pub kinds_of : (a : Op) (w : Retired) → Is a → insn_of t' a ≡ Some w → kind_of w ≡ Some a.kind
-  kinds_of a w (inl h) q = ap kind_of (sym (found a w h q)) ∙ s.are_of.kinds a h
+  pub kinds_of : (a : Op) (w : Retired) → Is a → insn_of t' a ≡ Some w → kind_of_retired w ≡ Some a.kind
+  kinds_of a w (inl h) q = ap kind_of_retired (sym (found a w h q)) ∙ s.are_of.kinds a h
   kinds_of a w (inr h) q = k.kinds a w h (sym (old_insn a h) ∙ q)
 
   pub unperformed_of : (a : Op) → Is a → a.place ≡ None → IsPlainStore t' a
@@ -196,17 +196,17 @@ module _ (t t' : Trace) (r : Retired) (new : List Op) (k : WellKinded t) (s : Ad
   plain_of a (inl h) p = let q = plain_adds a h p in subst IsPlainAnnotated (sym q.2) q.1.plain
   plain_of a (inr h) p = k.plain a h (ap (is_one is_store) (sym (old_insn a h)) ∙ p)
 
-  paired_new : (w : Op) → Contains new w → has_stored (Some r) ≡ true → (l : Op) × IsPair t' l w × IsWithin w l
+  paired_new : (w : Op) → Contains new w → has_stored (Some r) ≡ true → (l : Op) × IsPair t' l w × IsCoveredBy w l
   paired_new w h q = at s.adds
     where
-      at : Adds t t' r new → (l : Op) × IsPair t' l w × IsWithin w l
+      at : Adds t t' r new → (l : Op) × IsPair t' l w × IsCoveredBy w l
       at (adds_loads a) = absurd (let c : Some kind.Load ≡ Some kind.Store = sym a.loads ∙ stored_kind r q in cc)
       at (adds_store o a) = absurd (both_ways _ (store_sc r.insn a.stores) (stored_sc (Some r) q))
       at (adds_atomic e o a) = let l = a.pair (stored_sc (Some r) q) in
-          subst (λ (z : Op). (l : Op) × IsPair t' l z × IsWithin z l) (sym (only o w new a.one h)) (l.0, l.1, l.2)
+          subst (λ (z : Op). (l : Op) × IsPair t' l z × IsCoveredBy z l) (sym (only o w new a.one h)) (l.0, l.1, l.2)
       at (adds_nothing n) = absurd (nothing_in w (subst (λ (z : List Op). Contains z w) n.none h))
 
-  pub paired_of : (w : Op) → Is w → has_stored (insn_of t' w) ≡ true → (l : Op) × IsPair t' l w × IsWithin w l
+  pub paired_of : (w : Op) → Is w → has_stored (insn_of t' w) ≡ true → (l : Op) × IsPair t' l w × IsCoveredBy w l
   paired_of w (inl h) q = paired_new w h (ap has_stored (sym (new_insn w h)) ∙ q)
   paired_of w (inr h) q = let l = k.paired w h (ap has_stored (sym (old_insn w h)) ∙ q) in
       (l.0, pair_on t t' k (insn_ops t t' r new k s) l.0 w l.1, l.2)

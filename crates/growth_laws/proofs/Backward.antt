@@ -9,7 +9,7 @@ use Rattle.rvwmo_model.specs.declared.preserved.Rule.{Rule}
 use Rattle.rvwmo_model.specs.declared.preserved.Rule.TheVariants.{R1, R2, R3, R4, R5, R6, R7, R8, R9, R10, R11, R12}
 use Rattle.rvwmo_model.specs.declared.preserved.Rule.TheVariants.{R13}
 use Rattle.rvwmo_model.specs.declared.traces.Trace.{Trace}
-use Rattle.rvwmo_model.specs.Order.{kind_stores, standing, precedes, writes, reads, has_byte, stores, everything}
+use Rattle.rvwmo_model.specs.Order.{kind_stores, standing, precedes, writes, reads, has_byte, op_stores, everything}
 use Rattle.rvwmo_model.specs.ProgramOrder.{insn_at, is_one}
 use Rattle.rvwmo_model.specs.Sources.{source, origin}
 use Rattle.rvwmo_model.specs.Rules.{SomeBetween, StoresTo, AddressOn, DataOn, Orders, Broken}
@@ -63,7 +63,7 @@ module _ (t t' : Trace) (k : WellKinded t) (k' : WellKinded t') (go : (x : ℕ) 
       → SomeBetween (StoresTo t' a.name.hart x) a b
   store_goes a b x s =
       let o = s.3.0 in
-      let w = and_parts (stores o) (has_byte x o) s.3.4 in
+      let w = and_parts (op_stores o) (has_byte x o) s.3.4 in
       let l = g.lift o x s.3.1 w.1 in (
         s.0,
         s.1,

@@ -5,7 +5,7 @@ use Rattle.std.specs.List.{Contains}
 use Rattle.rvwmo_model.specs.declared.operations.Op.{Op}
 use Rattle.rvwmo_model.specs.declared.preserved.Rule.{Rule}
 use Rattle.rvwmo_model.specs.declared.traces.Trace.{Trace}
-use Rattle.rvwmo_model.specs.Order.{loads, has_byte, reads}
+use Rattle.rvwmo_model.specs.Order.{op_loads, has_byte, reads}
 use Rattle.rvwmo_model.specs.Sources.{origin}
 use Rattle.rvwmo_model.specs.Atomicity.{Torn}
 use Rattle.rvwmo_model.specs.InForm.{IsPlaced}
@@ -60,7 +60,7 @@ chain_torn _ _ r w (then t u v c g) p = elim (chain_torn t u r w c p) [
 
 pub stable_sources : StableSources
 stable_sources t t' i x k g h q =
-    chain_origin t t' i x (grows_chain t t' k g) h (load_placed t i k h (and_parts (loads i) (has_byte x i) q).0) q
+    chain_origin t t' i x (grows_chain t t' k g) h (load_placed t i k h (and_parts (op_loads i) (has_byte x i) q).0) q
 
 pub no_mending : NoMending
 no_mending initial t t' k g =

@@ -5,7 +5,7 @@ use Rattle.std.specs.List.{Contains}
 use Rattle.rvwmo_model.specs.declared.operations.Op.{Op}
 use Rattle.rvwmo_model.specs.declared.preserved.Rule.{Rule}
 use Rattle.rvwmo_model.specs.declared.traces.Trace.{Trace}
-use Rattle.rvwmo_model.specs.Order.{loads, has_byte, reads}
+use Rattle.rvwmo_model.specs.Order.{op_loads, has_byte, reads}
 use Rattle.rvwmo_model.specs.Sources.{source}
 use Rattle.rvwmo_model.specs.Rules.{Broken}
 use Rattle.rvwmo_model.specs.Atomicity.{Torn}
@@ -23,7 +23,7 @@ use Rattle.growth_laws.proofs.Chains.{chain_stays}
 same_or_overlap : (u v : Trace) → Link u v → (i : Op) (x : ℕ) → Contains u.ops i → reads x i ≡ true
     → SameSource u v x (source u i x) (source v i x) ⊎ HasOverlap v
 same_or_overlap u v g i x h q =
-    let p = load_placed u i g.before h (and_parts (loads i) (has_byte x i) q).0 in
+    let p = load_placed u i g.before h (and_parts (op_loads i) (has_byte x i) q).0 in
     elim (source_stays u v x i g.before g.after (g.writers x) h (g.operations.stays i h p) p) [
       | inl s ↦ inl s
       | inr c ↦ inr (has_overlap v x c.crossed)

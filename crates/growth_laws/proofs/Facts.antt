@@ -11,7 +11,7 @@ use Rattle.rvwmo_model.specs.declared.operations.Op.{Op}
 use Rattle.rvwmo_model.specs.declared.operations.OpKind.{OpKind}
 use Rattle.rvwmo_model.specs.declared.operations.OpKind.TheVariants as kind
 use Rattle.rvwmo_model.specs.declared.traces.Trace.{Trace}
-use Rattle.rvwmo_model.specs.Order.{kind_loads, kind_stores, loads, has_byte, precedes, everything}
+use Rattle.rvwmo_model.specs.Order.{kind_loads, kind_stores, op_loads, has_byte, precedes, everything}
 use Rattle.rvwmo_model.specs.ProgramOrder.{insn_of, is_older}
 use Rattle.rvwmo_model.specs.InForm.{IsPlaced}
 use Rattle.rvwmo_model.proofs.LookUp.{found_in}
@@ -41,7 +41,7 @@ plain_kind t o k h p =
     cc
 
 -- loads are performed
-pub load_placed : (t : Trace) (o : Op) → WellKinded t → Contains t.ops o → loads o ≡ true → IsPlaced o
+pub load_placed : (t : Trace) (o : Op) → WellKinded t → Contains t.ops o → op_loads o ≡ true → IsPlaced o
 load_placed t o k h l = elim (place_cases o) [
   | inl p ↦ p
   | inr e ↦ absurd (both_ways _ (ap kind_loads (plain_kind t o k h (k.unperformed o h e))) l)

@@ -8,7 +8,7 @@ use Rattle.rvwmo_model.specs.declared.preserved.Rule.{Rule}
 use Rattle.rvwmo_model.specs.declared.preserved.Rule.TheVariants.{R1, R2, R3, R4, R5, R6, R7, R8, R9, R10, R11, R12}
 use Rattle.rvwmo_model.specs.declared.preserved.Rule.TheVariants.{R13}
 use Rattle.rvwmo_model.specs.declared.traces.Trace.{Trace}
-use Rattle.rvwmo_model.specs.Order.{standing, has_byte, loads, kind_loads}
+use Rattle.rvwmo_model.specs.Order.{standing, has_byte, op_loads, kind_loads}
 use Rattle.rvwmo_model.specs.ProgramOrder.{insn_at, insn_of, is_one}
 use Rattle.rvwmo_model.specs.Rules.{Orders, Broken}
 use Rattle.rvwmo_model.specs.InForm.{IsPlaced}
@@ -80,7 +80,7 @@ module _ (initial : ℕ → ℕ) (t t' : Trace) (h : ℕ) (parts : List Op) (k :
     valued = λ i x v.
         let j = old i v.load_in
         (λ p. both_ways _ (ap kind_loads (plain_kind t' i k' v.load_in p))
-        (and_parts (loads i) (has_byte x i) v.loads).0) in
+        (and_parts (op_loads i) (has_byte x i) v.loads).0) in
         elim (chain_value_back initial t t' i x chain j.0 j.1 v) [ inl w ↦ legal.valued i x w | inr c ↦ whole c ];
     paired = λ w u. let r = k'.paired w u.sc_in u.stored in u.alone r.0 r.1 r.2;
     atomic = λ r w p.

@@ -11,7 +11,8 @@ use Rattle.rvwmo_model.specs.declared.operations.Op.{Op}
 use Rattle.rvwmo_model.specs.declared.operations.OpKind.TheVariants as kind
 use Rattle.rvwmo_model.specs.declared.traces.Trace.{Trace}
 use Rattle.rvwmo_model.specs.ProgramOrder.{insn_of, is_one}
-use Rattle.rvwmo_model.specs.InForm.{IsWhole, IsGranule, HasOne, InForm}
+use Rattle.rvwmo_model.specs.InForm.{IsWhole, HasOne, InForm}
+use Rattle.tandem_base.specs.Granules.{IsGranule}
 use Rattle.rvwmo_model.proofs.Membership.{nothing_in}
 use Rattle.growth_laws.proofs.Facts.{names_apart}
 use Rattle.growth_laws.specs.Kinds.{WellKinded}

@@ -12,8 +12,9 @@ use Rattle.rvwmo_model.specs.declared.traces.Trace.{Trace}
 use Rattle.tandem_base.specs.Extents.{Covers}
 use Rattle.rvwmo_model.specs.Order.{has_byte, everything}
 use Rattle.rvwmo_model.specs.ProgramOrder.{insn_at, insn_of, is_one}
-use Rattle.rvwmo_model.specs.Atomicity.{IsPair, IsWithin}
-use Rattle.rvwmo_model.specs.InForm.{IsOf, IsWhole, IsGranule, HasOne, InForm}
+use Rattle.rvwmo_model.specs.Atomicity.{IsPair, IsCoveredBy}
+use Rattle.rvwmo_model.specs.InForm.{IsOf, IsWhole, HasOne, InForm}
+use Rattle.tandem_base.specs.Granules.{IsGranule}
 use Rattle.rvwmo_model.proofs.LookUp.{named_self}
 use Rattle.rv_decode.specs.Kinds.{is_store, is_lr, is_sc}
 use Rattle.growth_laws.specs.Kinds.{SameInsn, IsNamed, IsPlainStore, IsPlainAnnotated, WellKinded}
@@ -242,7 +243,7 @@ module _ (t t' : Trace) (o n : Op) (rest : Option Op) (k : WellKinded t) (s : Pe
             )
       ]
 
-  paired_left : (w : Op) → Is w → has_stored (insn_of t' w) ≡ true → (l : Op) × IsPair t' l w × IsWithin w l
+  paired_left : (w : Op) → Is w → has_stored (insn_of t' w) ≡ true → (l : Op) × IsPair t' l w × IsCoveredBy w l
   paired_left w (inl r) q =
       absurd (plain_not is_sc t o store_sc own
       (stored_sc (insn_of t o) (ap has_stored (sym (root_insn w (inl r))) ∙ q)))

@@ -9,7 +9,8 @@ use Rattle.rvwmo_model.specs.declared.operations.Op.{Op}
 use Rattle.rvwmo_model.specs.declared.operations.OpKind.TheVariants as kind
 use Rattle.rvwmo_model.specs.declared.traces.Trace.{Trace}
 use Rattle.rvwmo_model.specs.ProgramOrder.{insn_of, is_one}
-use Rattle.rvwmo_model.specs.InForm.{IsPlaced, IsWhole, IsGranule, HasOne, InForm}
+use Rattle.rvwmo_model.specs.InForm.{IsPlaced, IsWhole, HasOne, InForm}
+use Rattle.tandem_base.specs.Granules.{IsGranule}
 use Rattle.growth_laws.proofs.Facts.{names_apart}
 use Rattle.rvwmo_model.proofs.Totality.{one_name}
 use Rattle.rv_decode.specs.Kinds.{is_store, is_lr}

@@ -8,7 +8,7 @@ use Rattle.rvwmo_model.specs.declared.operations.Op.{Op}
 use Rattle.rvwmo_model.specs.declared.preserved.Rule.{Rule}
 use Rattle.rvwmo_model.specs.declared.preserved.Rule.TheVariants.{R1}
 use Rattle.rvwmo_model.specs.declared.traces.Trace.{Trace}
-use Rattle.rvwmo_model.specs.Order.{standing, precedes, writes, has_byte, loads, everything}
+use Rattle.rvwmo_model.specs.Order.{standing, precedes, writes, has_byte, op_loads, everything}
 use Rattle.rvwmo_model.specs.ProgramOrder.{insn_at, insn_of, is_one}
 use Rattle.rvwmo_model.specs.Sources.{source, byte_from}
 use Rattle.rvwmo_model.specs.Atomicity.{IsPair, IsAfter, IsLate, IsTornAt, IntrudesBlock, Torn}
@@ -91,7 +91,7 @@ module _ (t t' : Trace) (k : WellKinded t) (k' : WellKinded t') (go : (x : ℕ) 
   pub value_on : (initial : ℕ → ℕ) (i : Op) (x : ℕ) → WrongValue initial t i x → WrongValue initial t' i x
       ⊎ HasOverlap t'
   value_on initial i x v =
-      let p = load_placed t i k v.load_in (and_parts (loads i) (has_byte x i) v.loads).0 in
+      let p = load_placed t i k v.load_in (and_parts (op_loads i) (has_byte x i) v.loads).0 in
       let there = g.stays i v.load_in p in
       elim (source_stays t t' x i k k' (go x) v.load_in there p) [
         | inr c ↦ inr (has_overlap t' x c.crossed)

@@ -11,7 +11,7 @@ use Rattle.rvwmo_model.specs.declared.preserved.Rule.{Rule}
 use Rattle.rvwmo_model.specs.declared.preserved.Rule.TheVariants.{R1, R2, R3, R4, R5, R6, R7, R8, R9, R10, R11, R12}
 use Rattle.rvwmo_model.specs.declared.preserved.Rule.TheVariants.{R13}
 use Rattle.rvwmo_model.specs.declared.traces.Trace.{Trace}
-use Rattle.rvwmo_model.specs.Order.{standing, precedes, reads, has_byte, stores, loads}
+use Rattle.rvwmo_model.specs.Order.{standing, precedes, reads, has_byte, op_stores, op_loads}
 use Rattle.rvwmo_model.specs.ProgramOrder.{insn_at, is_one}
 use Rattle.rvwmo_model.specs.Sources.{origin}
 use Rattle.rvwmo_model.specs.Rules.{SomeBetween, StoresTo, AddressOn, DataOn, Orders, Broken}
@@ -47,7 +47,7 @@ crossed_overlap t x c = record {
   second_in = c.second_in;
   one_hart = c.one_hart;
   in_order = c.in_order;
-  rule = (x, (and_parts (stores c.first) (has_byte x c.first) c.first_writes).1, c.second_writes);
+  rule = (x, (and_parts (op_stores c.first) (has_byte x c.first) c.first_writes).1, c.second_writes);
   against = c.against;
 }
 
@@ -59,7 +59,7 @@ module _ (t t' : Trace) (k : WellKinded t) (k' : WellKinded t') (go : (x : ℕ) 
   pub origin_on : (i : Op) (x : ℕ) → Contains t.ops i → reads x i ≡ true → (origin t' i x ≡ origin t i x)
       ⊎ HasOverlap t'
   origin_on i x h q =
-      let p = load_placed t i k h (and_parts (loads i) (has_byte x i) q).0 in
+      let p = load_placed t i k h (and_parts (op_loads i) (has_byte x i) q).0 in
       elim (origin_stays t t' x i k k' (go x) h (g.stays i h p) p) [
         | inl e ↦ inl e
         | inr c ↦ inr (has_overlap t' x c.crossed)

@@ -5,7 +5,7 @@ use Rattle.std.proofs.lemmas.Bool.Decides.{nat_tests}
 use Rattle.tandem_base.specs.declared.names.Place.{Place}
 use Rattle.rvwmo_model.specs.declared.operations.Op.{Op}
 use Rattle.rvwmo_model.specs.declared.traces.Trace.{Trace}
-use Rattle.rvwmo_model.specs.Order.{waiting, stands_before, standing_of, standing, precedes}
+use Rattle.rvwmo_model.specs.Order.{unperformed, stands_before, standing_of, standing, precedes}
 use Rattle.rvwmo_model.specs.InForm.{IsPlaced}
 use Rattle.rvwmo_model.proofs.Orders.{before_total}
 use Rattle.growth_laws.specs.Kinds.{SameInsn}
@@ -35,15 +35,18 @@ pub unplaced_order : (a b : Op) → a.place ≡ None → b.place ≡ None → a.
     → a.name.tag < b.name.tag
 unfolding stands_before
 unplaced_order a b e f h p =
-    let q : stands_before (waiting a.name.hart a.name.tag) (waiting b.name.hart b.name.tag) ≡ true = rw (e, f) at p in
+    let q : stands_before (unperformed a.name.hart a.name.tag) (unperformed b.name.hart b.name.tag) ≡ true =
+    rw (e, f) at p in
     grind (arith, nat_tests)
 
 -- two that are not performed and stand alike are of one instruction
 pub unplaced_same : (a b : Op) → a.place ≡ None → b.place ≡ None → precedes a b ≡ false → precedes b a ≡ false
     → SameInsn a b
 unplaced_same a b e f p q =
-    let p' : stands_before (waiting a.name.hart a.name.tag) (waiting b.name.hart b.name.tag) ≡ false = rw (e, f) at p in
-    let q' : stands_before (waiting b.name.hart b.name.tag) (waiting a.name.hart a.name.tag) ≡ false = rw (e, f) at q in
+    let p' : stands_before (unperformed a.name.hart a.name.tag) (unperformed b.name.hart b.name.tag) ≡ false =
+    rw (e, f) at p in
+    let q' : stands_before (unperformed b.name.hart b.name.tag) (unperformed a.name.hart a.name.tag) ≡ false =
+    rw (e, f) at q in
     let same = before_total _ _ p' q' in (cc same, cc same)
 
 -- what comes before a performed operation is performed

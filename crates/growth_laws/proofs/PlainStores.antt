@@ -12,7 +12,7 @@ use Rattle.rvwmo_model.specs.declared.preserved.Rule.{Rule}
 use Rattle.rvwmo_model.specs.declared.preserved.Rule.TheVariants.{R1, R2, R3, R4, R5, R6, R7, R8, R9, R10, R11, R12}
 use Rattle.rvwmo_model.specs.declared.preserved.Rule.TheVariants.{R13}
 use Rattle.rvwmo_model.specs.declared.traces.Trace.{Trace}
-use Rattle.rvwmo_model.specs.Order.{reads, has_byte, loads, kind_loads}
+use Rattle.rvwmo_model.specs.Order.{reads, has_byte, op_loads, kind_loads}
 use Rattle.rvwmo_model.specs.ProgramOrder.{insn_of, is_one}
 use Rattle.rvwmo_model.specs.Dependencies.{Flow, Dep, direct, along}
 use Rattle.rvwmo_model.specs.Flows.{flow_of, Depends}
@@ -66,7 +66,7 @@ pub plain_first : (t : Trace) (k : Rule) (a b : Op) → WellKinded t → Contain
 plain_first t k a b w ha p = at k
   where
     not_loads : (x : ℕ) → reads x a ≡ true → ⊥
-    not_loads x h = both_ways _ (ap kind_loads (plain_kind t a w ha p)) (and_parts (loads a) (has_byte x a) h).0
+    not_loads x h = both_ways _ (ap kind_loads (plain_kind t a w ha p)) (and_parts (op_loads a) (has_byte x a) h).0
 
     at : (k : Rule) → Orders k t a b → (k ≡ R1) ⊎ (k ≡ R4) ⊎ (k ≡ R6)
     at R1 h = inl refl

@@ -5,7 +5,7 @@ use Rattle.std.specs.List.{Contains}
 use Rattle.rvwmo_model.specs.declared.instructions.Retired.{Retired}
 use Rattle.rvwmo_model.specs.declared.operations.Op.{Op}
 use Rattle.rvwmo_model.specs.declared.traces.Trace.{Trace}
-use Rattle.rvwmo_model.specs.Order.{loads, has_byte, reads}
+use Rattle.rvwmo_model.specs.Order.{op_loads, has_byte, reads}
 use Rattle.rvwmo_model.specs.Sources.{source}
 use Rattle.rvwmo_model.specs.InForm.{IsPlaced, IsOf}
 use Rattle.rvwmo_model.specs.Legal.{Legal}
@@ -13,7 +13,7 @@ use Rattle.rvwmo_model.proofs.Membership.{nothing_in}
 use Rattle.growth_laws.specs.Kinds.{WellKinded}
 use Rattle.growth_laws.specs.Growth.{AddInsn}
 use Rattle.growth_laws.specs.Writers.{SameSource}
-use Rattle.growth_laws.specs.Laws.{place_of, SourceStays, WrongOnlyBy}
+use Rattle.growth_laws.specs.Laws.{source_place, SourceStays, WrongOnlyBy}
 use Rattle.growth_laws.specs.Corollaries.{SourcesRest, QuietInsns, SecondOfHart}
 use Rattle.growth_laws.proofs.Places.{not_both}
 use Rattle.growth_laws.proofs.Facts.{load_placed}
@@ -41,7 +41,7 @@ rest t t' i x l on h q = record {
     same : SameSource t t' x (source t i x) (source t' i x)
     same = unmoved t t' x l.before l.after (l.writers x) on i h q
 
-    at : (o n : Option Op) → SameSource t t' x o n → place_of n ≡ place_of o
+    at : (o n : Option Op) → SameSource t t' x o n → source_place n ≡ source_place o
     at None None s = refl
     at (Some s) (Some n) g = place_stays t t' x l.before l.after (l.writers x) on s n g
     at None (Some n) s = absurd s
@@ -59,7 +59,8 @@ quiet : (initial : ℕ → ℕ) (t t' : Trace) (r : Retired) (new : List Op) →
     → AddInsn t t' r new → ((v : Op) → Contains new v → v.place ≡ None) → Legal initial t'
 quiet initial t t' r new k legal s waits = record {
   ordered = λ j a b p. not_own b p.second_in (second_placed t' j a b p) (only.pairs j a b p);
-  valued = λ i x v. not_own i v.load_in (load_placed t' i k' v.load_in (and_parts (loads i) (has_byte x i) v.loads).0)
+  valued = λ i x v. not_own i v.load_in
+      (load_placed t' i k' v.load_in (and_parts (op_loads i) (has_byte x i) v.loads).0)
       (only.values i x v);
   paired = λ w u. let z = k'.paired w u.sc_in u.stored in u.alone z.0 z.1 z.2;
   atomic = λ i w p. not_own w p.pair.sc_in (sc_placed t' w k' p.pair.sc_in p.pair.stored) (only.atomicity i w p);

@@ -5,7 +5,7 @@ use Rattle.rvwmo_model.specs.declared.preserved.Rule.{Rule}
 use Rattle.rvwmo_model.specs.declared.traces.Trace.{Trace}
 use Rattle.rvwmo_model.specs.Rules.{Broken}
 use Rattle.rvwmo_model.specs.Legal.{Legal}
-use Rattle.rvwmo_model.specs.Report.{number, IsReported}
+use Rattle.rvwmo_model.specs.Report.{number, IsReportedPair}
 use Rattle.growth_laws.specs.Kinds.{WellKinded}
 use Rattle.growth_laws.specs.Growth.{Growth, grow_same, grow_early, grow_insn, grow_stores, IsGrowing}
 use Rattle.growth_laws.specs.Laws.{IsLeastRule, BrokenOn, IsReportedOn, ReportOfHart}
@@ -37,7 +37,7 @@ module _ (t : Trace) (h : ℕ) (on : (k : Rule) (a b : Op) → IsLeastRule t k �
       → IsLeastRule t k
   least_of_hart k none j l = none_below (number k) k none j l l
 
-  pub report_to : (k : Rule) (a b : Op) → IsReported t k a b → IsReportedOn h t k a b
+  pub report_to : (k : Rule) (a b : Op) → IsReportedPair t k a b → IsReportedOn h t k a b
   report_to k a b p = record {
     rule = λ j l c d q. p.rule j l c d q.0;
     second = record { offends = (a, (p.first.here, mine)); least = λ v q. p.second.least v (q.0, q.1.0) };
@@ -47,7 +47,7 @@ module _ (t : Trace) (h : ℕ) (on : (k : Rule) (a b : Op) → IsLeastRule t k �
       mine : b.name.hart ≡ h
       mine = on k a b p.rule p.first.here
 
-  pub report_from : (k : Rule) (a b : Op) → IsReportedOn h t k a b → IsReported t k a b
+  pub report_from : (k : Rule) (a b : Op) → IsReportedOn h t k a b → IsReportedPair t k a b
   report_from k a b p = record {
     rule = least;
     second = record {

@@ -4,11 +4,11 @@ use Rattle.std.proofs.lemmas.Bool.{and_parts}
 use Rattle.std.specs.List.{Contains}
 use Rattle.rvwmo_model.specs.declared.operations.Op.{Op}
 use Rattle.rvwmo_model.specs.declared.traces.Trace.{Trace}
-use Rattle.rvwmo_model.specs.Order.{loads, has_byte}
+use Rattle.rvwmo_model.specs.Order.{op_loads, has_byte}
 use Rattle.rvwmo_model.specs.Sources.{source}
 use Rattle.rvwmo_model.specs.InForm.{IsPlaced}
 use Rattle.growth_laws.specs.Writers.{SameSource}
-use Rattle.growth_laws.specs.Laws.{IsSettled, place_of, SourceStays, SettledSources}
+use Rattle.growth_laws.specs.Laws.{IsSettled, source_place, SourceStays, SettledSources}
 use Rattle.growth_laws.proofs.Places.{not_both}
 use Rattle.growth_laws.proofs.Facts.{load_placed}
 use Rattle.growth_laws.proofs.Sources.{source_moves, same_origin}
@@ -17,7 +17,8 @@ use Rattle.growth_laws.proofs.Lawful.{same_given}
 use Rattle.growth_laws.proofs.Chains.{chain_stays}
 use Rattle.growth_laws.proofs.Growths.{grows_chain}
 
-same_place : (t t' : Trace) (x : ℕ) (o n : Option Op) → IsSettled o → SameSource t t' x o n → place_of n ≡ place_of o
+same_place : (t t' : Trace) (x : ℕ) (o n : Option Op) → IsSettled o → SameSource t t' x o n
+    → source_place n ≡ source_place o
 same_place t t' x None None d h = refl
 same_place t t' x (Some s) (Some n) d h = elim h.becomes.place [ inl e ↦ e | inr m ↦ absurd (not_both s d m.0) ]
 same_place t t' x None (Some n) d h = absurd h
@@ -62,4 +63,5 @@ chain_settled _ _ i x (then t u v c g) h p d =
 
 pub settled_sources : SettledSources
 settled_sources t t' i x k g h q d =
-    (chain_settled t t' i x (grows_chain t t' k g) h (load_placed t i k h (and_parts (loads i) (has_byte x i) q).0) d).0
+    (chain_settled t t' i x (grows_chain t t' k g) h
+    (load_placed t i k h (and_parts (op_loads i) (has_byte x i) q).0) d).0

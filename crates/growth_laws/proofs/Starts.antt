@@ -1,6 +1,7 @@
 -- The trace of nothing is well kinded and legal.
 use Rattle.std.proofs.Common.{ℕ, arith}
-use Rattle.rvwmo_model.specs.InForm.{IsGranule, InForm}
+use Rattle.rvwmo_model.specs.InForm.{InForm}
+use Rattle.tandem_base.specs.Granules.{IsGranule}
 use Rattle.rvwmo_model.proofs.Membership.{nothing_in}
 use Rattle.growth_laws.specs.Kinds.{WellKinded}
 use Rattle.growth_laws.specs.Laws.{nothing_yet, StartsWell}

@@ -8,10 +8,10 @@ use Rattle.rvwmo_model.specs.declared.instructions.Retired.{Retired}
 use Rattle.rvwmo_model.specs.declared.operations.Op.{Op}
 use Rattle.rvwmo_model.specs.declared.operations.OpKind.TheVariants as kind
 use Rattle.rvwmo_model.specs.declared.traces.Trace.{Trace}
-use Rattle.rvwmo_model.specs.Order.{kind_stores, stores, has_byte, writes, put_at, everything}
+use Rattle.rvwmo_model.specs.Order.{kind_stores, op_stores, has_byte, writes, put_at, everything}
 use Rattle.rvwmo_model.specs.InForm.{IsPlaced}
 use Rattle.rvwmo_model.proofs.Membership.{nothing_in, head_in, in_cases}
-use Rattle.growth_laws.specs.Kinds.{kind_of, WellKinded}
+use Rattle.growth_laws.specs.Kinds.{kind_of_retired, WellKinded}
 use Rattle.growth_laws.specs.Growth.{SameMembers, IsAbove, IsYounger, Same, AddEarly, AddsStore, AddsAtomic, Adds}
 use Rattle.growth_laws.specs.Growth.{adds_loads, adds_store, adds_atomic, adds_nothing, AddInsn, IsPartOf}
 use Rattle.growth_laws.specs.Growth.{PerformsPart}
@@ -82,11 +82,11 @@ insn_grown t t' r new x s early fresh =
     ])
 
 load_stores_none : (t t' : Trace) (r : Retired) (new : List Op) (x : ℕ) (n : Op) → AddInsn t t' r new
-    → kind_of r ≡ Some kind.Load → Contains new n → writes x n ≡ true → ⊥
+    → kind_of_retired r ≡ Some kind.Load → Contains new n → writes x n ≡ true → ⊥
 load_stores_none t t' r new x n s e m q =
     let c : Some n.kind ≡ Some kind.Load = sym (s.are_of.kinds n m) ∙ e in
     let same : n.kind ≡ kind.Load = cc in
-    both_ways _ (ap kind_stores same) (and_parts (stores n) (has_byte x n) q).0
+    both_ways _ (ap kind_stores same) (and_parts (op_stores n) (has_byte x n) q).0
 
 pub only : (o n : Op) (new : List Op) → new ≡ o ∷ [] → Contains new n → n ≡ o
 only o n new e h =
@@ -118,13 +118,13 @@ module _ (t t' : Trace) (r : Retired) (new : List Op) (e o : Op) (x : ℕ) (k : 
     stores = u;
     retired = λ j. s.added o (there o new a.one);
     becomes = record { same = a.same; place = inl a.place };
-    byte = a.put x (and_parts (stores o) (has_byte x o) u).1;
+    byte = a.put x (and_parts (op_stores o) (has_byte x o) u).1;
   }
 
-  stores_both : (stores o ≡ true) × (stores e ≡ true)
+  stores_both : (op_stores o ≡ true) × (op_stores e ≡ true)
   stores_both = (own_stores, ap kind_stores (k.early_stores e a.was))
     where
-      own_stores : stores o ≡ true
+      own_stores : op_stores o ≡ true
       own_stores = atomic_stores r.insn r.stored o.kind a.atomic (s.are_of.kinds o (there o new a.one))
 
   forth : (w : Op) → Contains (everything t) w → writes x w ≡ true → Contains t.ops w ⊎ Contains t.early w → (m : Op)
@@ -135,7 +135,7 @@ module _ (t t' : Trace) (r : Retired) (new : List Op) (e o : Op) (x : ℕ) (k : 
         let u = subst (λ (z : Op). writes x z ≡ true) same q in (
           o,
           subst (λ (z : Op). GoesOn t t' x z o) (sym same)
-              (retires u (and_from _ _ stores_both.0 (covers_same ∙ (and_parts (stores e) (has_byte x e) u).1))),
+              (retires u (and_from _ _ stores_both.0 (covers_same ∙ (and_parts (op_stores e) (has_byte x e) u).1))),
         )
     | inr c ↦ (w, stays t t' x s.ops_on w h (Contains-append_right t'.ops t'.early w c) q)
   ]
@@ -150,7 +150,7 @@ module _ (t t' : Trace) (r : Retired) (new : List Op) (e o : Op) (x : ℕ) (k : 
         inl (
           e,
           subst (λ (z : Op). GoesOn t t' x e z) (sym same)
-              (retires (and_from _ _ stores_both.1 (sym covers_same ∙ (and_parts (stores o) (has_byte x o) u).1)) u),
+              (retires (and_from _ _ stores_both.1 (sym covers_same ∙ (and_parts (op_stores o) (has_byte x o) u).1)) u),
         )
     | inr c ↦ inl (n, stays t t' x s.ops_on n (Contains-append_left t.ops t.early n c) h q)
   ]
@@ -231,7 +231,7 @@ module _ (t t' : Trace) (o n : Op) (rest : Option Op) (x : ℕ) (k : WellKinded 
   part_on : (m : Op) → Contains t'.ops m → IsPartOf m o → (m.place ≡ o.place)
       ⊎ ((o.place ≡ None) × IsPlaced m × IsAbove t m) → writes x m ≡ true → Back t t' x m
   part_on m i p e q =
-      let c = and_parts (stores m) (has_byte x m) q in
+      let c = and_parts (op_stores m) (has_byte x m) q in
       inl (
         o,
         goes o m was i (and_from _ _ (sym (ap kind_stores p.kind) ∙ c.0) (p.bytes x c.1).0) q
@@ -243,7 +243,7 @@ module _ (t t' : Trace) (o n : Op) (rest : Option Op) (x : ℕ) (k : WellKinded 
   part_forth w h q (inr b) = (w, early_goes w b (s.early.on w b) q)
   part_forth w h q (inl a) = elim (s.ops_on w a) [
     | inl same ↦
-        let c = and_parts (stores o) (has_byte x o) (subst (λ (z : Op). writes x z ≡ true) same q) in
+        let c = and_parts (op_stores o) (has_byte x o) (subst (λ (z : Op). writes x z ≡ true) same q) in
         let l = part_lift t t' o n rest s x c.1 in (
           l.0,
           subst (λ (z : Op). GoesOn t t' x z l.0) (sym same)

@@ -7,7 +7,7 @@ use Rattle.rvwmo_model.specs.declared.operations.Op.{Op}
 use Rattle.rvwmo_model.specs.declared.preserved.Rule.{Rule}
 use Rattle.rvwmo_model.specs.declared.preserved.Rule.TheVariants.{R1, R9, R10}
 use Rattle.rvwmo_model.specs.declared.traces.Trace.{Trace}
-use Rattle.rvwmo_model.specs.Order.{standing, precedes, has_byte, loads}
+use Rattle.rvwmo_model.specs.Order.{standing, precedes, has_byte, op_loads}
 use Rattle.rvwmo_model.specs.ProgramOrder.{insn_at}
 use Rattle.rvwmo_model.specs.Rules.{Orders}
 use Rattle.rvwmo_model.specs.InForm.{IsPlaced}
@@ -112,7 +112,7 @@ module _ (initial : ℕ → ℕ) (t t' : Trace) (a : Op) (k : WellKinded t) (leg
           second_in = chain_stays t t' a chain below.in_ops pa;
           one_hart = one;
           in_order = lt;
-          rule = (x, (and_parts (loads c) (has_byte x c) q).1, w);
+          rule = (x, (and_parts (op_loads c) (has_byte x c) q).1, w);
         })).1;
     dependent = λ r j c rule p q. both_ways _ (before_asym (standing c) (standing b) (both r c (inr rule) p).1)
         q.against;

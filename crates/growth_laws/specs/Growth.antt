@@ -11,10 +11,10 @@ use Rattle.rvwmo_model.specs.declared.traces.Trace.{Trace}
 use Rattle.tandem_base.specs.Extents.{Covers}
 use Rattle.rvwmo_model.specs.Order.{has_byte, precedes, put_at, everything}
 use Rattle.rvwmo_model.specs.ProgramOrder.{insn_at}
-use Rattle.rvwmo_model.specs.Atomicity.{IsPair, IsWithin}
+use Rattle.rvwmo_model.specs.Atomicity.{IsPair, IsCoveredBy}
 use Rattle.rvwmo_model.specs.InForm.{AreRising, IsPlaced, IsOf, IsWhole}
 use Rattle.rv_decode.specs.Kinds.{is_store, is_lr, is_sc, is_amo_or_sc}
-use Rattle.growth_laws.specs.Kinds.{kind_of, SameInsn, IsNamed, IsPlainAnnotated}
+use Rattle.growth_laws.specs.Kinds.{kind_of_retired, SameInsn, IsNamed, IsPlainAnnotated}
 
 -- two lists have the same members
 pub record SameMembers (xs ys : List Op) : Type 0 where
@@ -73,7 +73,7 @@ pub record AddEarly (t t' : Trace) (e : Op) : Type 0 where
 -- they are of r, of its kind and of one extent, have no common byte, and are named by their lowest bytes
 pub record AreOf (r : Retired) (new : List Op) : Type 0 where
   pub own : (v : Op) → Contains new v → IsOf r v
-  pub kinds : (v : Op) → Contains new v → kind_of r ≡ Some v.kind
+  pub kinds : (v : Op) → Contains new v → kind_of_retired r ≡ Some v.kind
   pub whole : (v : Op) → Contains new v → IsWhole v
   pub parts : (v : Op) → Contains new v → IsNamed v
   pub extents : (a b : Op) → Contains new a → Contains new b → a.extent ≡ b.extent
@@ -83,7 +83,7 @@ pub record AreOf (r : Retired) (new : List Op) : Type 0 where
 -- a load or LR: each operation has a place that no other has; an LR has one operation, aligned where a reservation is
 -- of a block
 pub record AddsLoads (t t' : Trace) (r : Retired) (new : List Op) : Type 0 where
-  pub loads : kind_of r ≡ Some kind.Load
+  pub loads : kind_of_retired r ≡ Some kind.Load
   pub early : SameMembers t.early t'.early
   pub placed : (v : Op) → Contains new v → IsPlaced v
   pub places : (a b : Op) (p : Place) → Contains new a → Contains (everything t') b → a.place ≡ Some p
@@ -113,11 +113,11 @@ pub record AddsAtomic (t t' : Trace) (r : Retired) (new : List Op) (e o : Op) : 
   pub extent : o.extent ≡ e.extent
   pub mask : o.mask ≡ e.mask
   pub put : (x : ℕ) → has_byte x o ≡ true → put_at o x ≡ put_at e x
-  pub pair : is_sc r.insn ≡ true → (l : Op) × IsPair t' l o × IsWithin o l
+  pub pair : is_sc r.insn ≡ true → (l : Op) × IsPair t' l o × IsCoveredBy o l
 
 -- every other instruction, and a failed SC: no operation
 pub record AddsNothing (t t' : Trace) (r : Retired) (new : List Op) : Type 0 where
-  pub nothing : kind_of r ≡ None
+  pub nothing : kind_of_retired r ≡ None
   pub early : SameMembers t.early t'.early
   pub none : new ≡ []
 

@@ -14,7 +14,7 @@ use Rattle.rvwmo_model.specs.declared.operations.Ann.TheVariants as ann
 use Rattle.rvwmo_model.specs.declared.traces.Trace.{Trace}
 use Rattle.rvwmo_model.specs.Order.{has_byte}
 use Rattle.rvwmo_model.specs.ProgramOrder.{insn_of, is_one}
-use Rattle.rvwmo_model.specs.Atomicity.{IsPair, IsWithin}
+use Rattle.rvwmo_model.specs.Atomicity.{IsPair, IsCoveredBy}
 use Rattle.rvwmo_model.specs.InForm.{InForm}
 use Rattle.rvwmo_model.specs.Annotations.{is_rcsc}
 use Rattle.rvwmo_model.specs.InsnKinds.{has_stored}
@@ -29,8 +29,8 @@ kind_of_insn (Amo op wide aq rl rd rs1 rs2) stored = Some kind.Both
 kind_of_insn _ stored = None
 
 -- the kind of the operations of an instruction that retired
-abbrev pub kind_of : Retired → Option OpKind
-kind_of w = kind_of_insn w.insn w.stored
+abbrev pub kind_of_retired : Retired → Option OpKind
+kind_of_retired w = kind_of_insn w.insn w.stored
 
 -- o is an operation of a plain store
 abbrev pub IsPlainStore : Trace → Op → Type 0
@@ -53,7 +53,7 @@ IsPlainAnnotated o = (o.acquire ≡ ann.None) × (is_rcsc o.release ≡ false)
 pub record WellKinded (t : Trace) : Type 0 where
   pub form : InForm t
   -- the kind of an operation fits its instruction; an AMO has one operation
-  pub kinds : (o : Op) (w : Retired) → Contains t.ops o → insn_of t o ≡ Some w → kind_of w ≡ Some o.kind
+  pub kinds : (o : Op) (w : Retired) → Contains t.ops o → insn_of t o ≡ Some w → kind_of_retired w ≡ Some o.kind
   pub amo : (a b : Op) → Contains t.ops a → Contains t.ops b → SameInsn a b → a.kind ≡ kind.Both → a ≡ b
   -- early stores are stores
   pub early_stores : (o : Op) → Contains t.early o → o.kind ≡ kind.Store
@@ -73,4 +73,4 @@ pub record WellKinded (t : Trace) : Type 0 where
   pub early_younger : (o : Op) (w : Retired) → Contains t.early o → Contains t.insns w → w.hart ≡ o.name.hart
       → w.tag < o.name.tag
   -- each successful SC has a pair whose bytes contain its own
-  pub paired : (w : Op) → Contains t.ops w → has_stored (insn_of t w) ≡ true → (r : Op) × IsPair t r w × IsWithin w r
+  pub paired : (w : Op) → Contains t.ops w → has_stored (insn_of t w) ≡ true → (r : Op) × IsPair t r w × IsCoveredBy w r

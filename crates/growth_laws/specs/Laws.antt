@@ -12,9 +12,10 @@ use Rattle.rvwmo_model.specs.declared.preserved.Rule.{Rule}
 use Rattle.rvwmo_model.specs.declared.preserved.Rule.TheVariants.{R1, R4, R6, R9, R10}
 use Rattle.rvwmo_model.specs.Rules.{Orders, Broken}
 use Rattle.rvwmo_model.specs.Atomicity.{Torn}
-use Rattle.rvwmo_model.specs.InForm.{IsPlaced, IsOf, IsGranule}
+use Rattle.rvwmo_model.specs.InForm.{IsPlaced, IsOf}
+use Rattle.tandem_base.specs.Granules.{IsGranule}
 use Rattle.rvwmo_model.specs.Legal.{WrongValue, Legal}
-use Rattle.rvwmo_model.specs.Report.{number, IsLeast, IsLatest, IsReported}
+use Rattle.rvwmo_model.specs.Report.{number, IsLeast, IsLatest, IsReportedPair}
 use Rattle.growth_laws.specs.Kinds.{WellKinded, IsPlainStore}
 use Rattle.growth_laws.specs.Growth.{Same, AddEarly, AddInsn, Performs, Growth, IsGrowing, Grows, IsYounger}
 use Rattle.growth_laws.specs.Writers.{WritersGo}
@@ -63,14 +64,14 @@ IsSettled None = Unit {0}
 IsSettled (Some s) = IsPlaced s
 
 -- the place of a source
-abbrev pub place_of : Option Op → Option Place
-place_of None = None
-place_of (Some s) = s.place
+abbrev pub source_place : Option Op → Option Place
+source_place None = None
+source_place (Some s) = s.place
 
 -- the source of byte x of i is the same store at the same place, with the same byte, or the initial value in both
 pub record SourceStays (t t' : Trace) (i : Op) (x : ℕ) : Type 0 where
   pub store : origin t' i x ≡ origin t i x
-  pub place : place_of (source t' i x) ≡ place_of (source t i x)
+  pub place : source_place (source t' i x) ≡ source_place (source t i x)
   pub byte : (initial : ℕ → ℕ) → byte_from initial (source t' i x) x ≡ byte_from initial (source t i x) x
 
 -- settled sources: under all growths a settled source stays, whatever is broken
@@ -186,4 +187,4 @@ pub record IsReportedOn (h : ℕ) (t : Trace) (k : Rule) (a b : Op) : Type 0 whe
 abbrev pub ReportOfHart : Type 0
 ReportOfHart = (initial : ℕ → ℕ) (t t' : Trace) (h : ℕ) (g : Growth t t') → WellKinded t → Legal initial t
     → IsGrowing g h
-    → (k : Rule) (a b : Op) → IsReported t' k a b ↔ IsReportedOn h t' k a b
+    → (k : Rule) (a b : Op) → IsReportedPair t' k a b ↔ IsReportedOn h t' k a b

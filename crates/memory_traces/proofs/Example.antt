@@ -13,7 +13,8 @@ use Rattle.rvwmo_model.specs.Sources.{origin}
 use Rattle.rvwmo_model.specs.Rules.{Broken}
 use Rattle.rvwmo_model.specs.InForm.{IsPlaced}
 use Rattle.growth_laws.specs.Growth.{IsPartOf, PerformsPart, Performs, no_parts, more_parts}
-use Rattle.memory_traces.specs.Example.{word, op, name, drained, bytes, first_store, second_store, load, amo, low}
+use Rattle.memory_traces.specs.Example.{word, op, name, drained_place, bytes, first_store, second_store, load_of_word}
+use Rattle.memory_traces.specs.Example.{amo_of_word, low}
 use Rattle.memory_traces.specs.Example.{left, high, t5, t6, t7, EachGrowthOccurs}
 use Rattle.growth_laws.proofs.Places.{not_both}
 use Rattle.memory_traces.proofs.ExampleInsns.{whole_op, waits, before, add_first, add_second, add_third, add_early}
@@ -33,7 +34,7 @@ low_part = record {
   bytes = λ x q. each_byte (λ y. has_byte y low ≡ true → (has_byte y second_store ≡ true)
       × (put_at low y ≡ put_at second_store y)) low refl (λ e. (refl, refl)) (λ e. (refl, refl))
       (λ e. absurd (false≢true e)) (λ e. absurd (false≢true e)) x q q;
-  whole = whole_op kind.Store (name 0 2 0) word 3 0 2 (drained 3) refl (omega arith) (omega arith);
+  whole = whole_op kind.Store (name 0 2 0) word 3 0 2 (drained_place 3) refl (omega arith) (omega arith);
   named = record {
     here = refl;
     lowest = λ x q. each_byte (λ y. 4098 + 0 ≤ y) low refl (omega arith) (omega arith)
@@ -60,7 +61,7 @@ upper_part p = record {
 }
 
 high_part : IsPartOf high left
-high_part = let u = upper_part (drained 4) in
+high_part = let u = upper_part high.place in
     record {
       same = (refl, refl);
       kind = refl;
@@ -76,8 +77,8 @@ above_five : (v : Op) → Among v (everything t5) → IsPlaced v → precedes v 
 unfolding stands_before
 above_five v (inl s) p = absurd (waits v first_store s refl p)
 above_five v (inr (inl s)) p = absurd (waits v second_store s refl p)
-above_five v (inr (inr (inl s))) p = before v load low s refl
-above_five v (inr (inr (inr (inl s)))) p = before v amo low s refl
+above_five v (inr (inr (inl s))) p = before v load_of_word low s refl
+above_five v (inr (inr (inr (inl s)))) p = before v amo_of_word low s refl
 above_five v (inr (inr (inr (inr f)))) p = absurd f
 
 above_six : (v : Op) → Among v (everything t6) → IsPlaced v → precedes v high ≡ true
@@ -85,8 +86,8 @@ unfolding stands_before
 above_six v (inl s) p = absurd (waits v first_store s refl p)
 above_six v (inr (inl s)) p = before v low high s refl
 above_six v (inr (inr (inl s))) p = absurd (waits v left s refl p)
-above_six v (inr (inr (inr (inl s)))) p = before v load high s refl
-above_six v (inr (inr (inr (inr (inl s))))) p = before v amo high s refl
+above_six v (inr (inr (inr (inl s)))) p = before v load_of_word high s refl
+above_six v (inr (inr (inr (inr (inl s))))) p = before v amo_of_word high s refl
 above_six v (inr (inr (inr (inr (inr f))))) p = absurd f
 
 five_on : (v : Op) → Among v t5.ops → (v ≡ second_store) ⊎ Among v t6.ops
@@ -129,16 +130,16 @@ second_gone : Among second_store t6.ops → ⊥
 second_gone (inl s) = other_tag second_store first_store s (inr (omega arith))
 second_gone (inr (inl s)) = other_mask second_store low s (inr (omega arith))
 second_gone (inr (inr (inl s))) = other_mask second_store left s (inr (omega arith))
-second_gone (inr (inr (inr (inl s)))) = other_tag second_store load s (inl (omega arith))
-second_gone (inr (inr (inr (inr (inl s))))) = other_tag second_store amo s (inr (omega arith))
+second_gone (inr (inr (inr (inl s)))) = other_tag second_store load_of_word s (inl (omega arith))
+second_gone (inr (inr (inr (inr (inl s))))) = other_tag second_store amo_of_word s (inr (omega arith))
 second_gone (inr (inr (inr (inr (inr f))))) = f
 
 left_gone : Among left t7.ops → ⊥
 left_gone (inl s) = other_tag left first_store s (inr (omega arith))
 left_gone (inr (inl s)) = other_mask left low s (inr (omega arith))
 left_gone (inr (inr (inl s))) = not_both high (_, refl) (ap (λ (z : Op). z.place) (sym s))
-left_gone (inr (inr (inr (inl s)))) = other_tag left load s (inl (omega arith))
-left_gone (inr (inr (inr (inr (inl s))))) = other_tag left amo s (inr (omega arith))
+left_gone (inr (inr (inr (inl s)))) = other_tag left load_of_word s (inl (omega arith))
+left_gone (inr (inr (inr (inr (inl s))))) = other_tag left amo_of_word s (inr (omega arith))
 left_gone (inr (inr (inr (inr (inr f))))) = f
 
 some_is : (a b : Op) → Some a ≡ Some b → a ≡ b
@@ -208,11 +209,11 @@ key tag = record { hart = 0; tag = tag }
 other_key : Some (key 1) ≡ Some (key 2) → ⊥
 other_key e = let same : key 1 ≡ key 2 = cc in omega (arith, ap (λ (z : Origin). z.tag) same)
 
-source_before : origin t5 load 4098 ≡ Some (key 2)
+source_before : origin t5 load_of_word 4098 ≡ Some (key 2)
 unfolding stands_before
 source_before = refl
 
-source_after : origin t7 load 4098 ≡ Some (key 1)
+source_after : origin t7 load_of_word 4098 ≡ Some (key 1)
 unfolding stands_before
 source_after = refl
 

@@ -15,7 +15,8 @@ use Rattle.growth_laws.specs.Kinds.{IsNamed}
 use Rattle.growth_laws.specs.Growth.{AddEarly, AddInsn, adds_loads, adds_store, adds_atomic}
 use Rattle.growth_laws.specs.Laws.{nothing_yet}
 use Rattle.memory_traces.specs.Example.{word, other_word, op, name, place, bytes, first, second, third, other}
-use Rattle.memory_traces.specs.Example.{first_store, second_store, load, early, amo, t1, t2, t3, t4, t5}
+use Rattle.memory_traces.specs.Example.{first_store, second_store, load_of_word, amo_early_store, amo_of_word}
+use Rattle.memory_traces.specs.Example.{t1, t2, t3, t4, t5}
 use Rattle.growth_laws.proofs.Places.{not_both}
 use Rattle.rvwmo_model.proofs.Membership.{nothing_in, head_in}
 use Rattle.memory_traces.proofs.Formed.{once_by}
@@ -98,7 +99,7 @@ add_second = add_one t1 second second_store [] add_first.keeps.rising (once_by t
       plain = (refl, refl);
     }))
 
-load_alone : (a b : Op) (p : Place) → Among a (load ∷ []) → Among b (everything t3) → a.place ≡ Some p
+load_alone : (a b : Op) (p : Place) → Among a (load_of_word ∷ []) → Among b (everything t3) → a.place ≡ Some p
     → b.place ≡ Some p → a ≡ b
 load_alone a b p (inr f) j e q = absurd f
 load_alone a b p (inl i) (inl s) e q = absurd (waits b first_store s refl (p, q))
@@ -106,38 +107,38 @@ load_alone a b p (inl i) (inr (inl s)) e q = absurd (waits b second_store s refl
 load_alone a b p (inl i) (inr (inr (inl s))) e q = i ∙ sym s
 load_alone a b p (inl i) (inr (inr (inr f))) e q = absurd f
 
-pub add_third : AddInsn t2 t3 third (load ∷ [])
-add_third = add_one t2 third load [] add_second.keeps.rising (once_by t3.ops refl)
+pub add_third : AddInsn t2 t3 third (load_of_word ∷ [])
+add_third = add_one t2 third load_of_word [] add_second.keeps.rising (once_by t3.ops refl)
     (λ w i. third_last w (among t2.insns w i)) (λ v i. absurd (nothing_in v i))
-    (are_one third load (refl, refl) refl
+    (are_one third load_of_word (refl, refl) refl
     (whole_op kind.Load (name 0 3 0) word 15 2 0 (place 1) refl (omega arith) (omega arith))
     (named_op kind.Load 0 3 word (bytes 2) (bytes 0) (place 1) refl refl))
     (adds_loads (record {
       loads = refl;
       early = members_self [];
-      placed = λ v i. elim (among (load ∷ []) v i) [
+      placed = λ v i. elim (among (load_of_word ∷ []) v i) [
         | inl e ↦ subst (λ (z : Op). IsPlaced z) (sym e)
             (record { time = 1; message = 1; insert = 1 }, refl)
         | inr f ↦ absurd f
       ];
-      places = λ a b p i j. load_alone a b p (among (load ∷ []) a i) (among (everything t3) b j);
+      places = λ a b p i j. load_alone a b p (among (load_of_word ∷ []) a i) (among (everything t3) b j);
       reserves = λ e. absurd (false≢true e);
     }))
 
-above_three : (v : Op) → Among v (everything t3) → IsPlaced v → precedes v early ≡ true
+above_three : (v : Op) → Among v (everything t3) → IsPlaced v → precedes v amo_early_store ≡ true
 unfolding stands_before
 above_three v (inl s) p = absurd (waits v first_store s refl p)
 above_three v (inr (inl s)) p = absurd (waits v second_store s refl p)
-above_three v (inr (inr (inl s))) p = before v load early s refl
+above_three v (inr (inr (inl s))) p = before v load_of_word amo_early_store s refl
 above_three v (inr (inr (inr f))) p = absurd f
 
-pub add_early : AddEarly t3 t4 early
+pub add_early : AddEarly t3 t4 amo_early_store
 add_early = record {
   keeps = record { insns = λ h k. refl; rising = add_third.keeps.rising; once = add_third.keeps.once; granule = refl };
   ops = members_self t3.ops;
   early_on = λ v i. absurd (nothing_in v i);
-  early_back = λ v i. elim (among (early ∷ []) v i) [ inl e ↦ inl e | inr f ↦ absurd f ];
-  added = head_in early [];
+  early_back = λ v i. elim (among (amo_early_store ∷ []) v i) [ inl e ↦ inl e | inr f ↦ absurd f ];
+  added = head_in amo_early_store [];
   kind = refl;
   whole = whole_op kind.Store (name 1 1 0) other_word 15 0 1 (place 2) refl (omega arith) (omega arith);
   placed = (_, refl);
@@ -146,18 +147,18 @@ add_early = record {
   fresh = λ v i s. absurd (nothing_in v i);
 }
 
-pub add_amo : AddInsn t4 t5 other (amo ∷ [])
-add_amo = add_one t4 other amo [] add_third.keeps.rising (once_by t5.ops refl)
+pub add_amo : AddInsn t4 t5 other (amo_of_word ∷ [])
+add_amo = add_one t4 other amo_of_word [] add_third.keeps.rising (once_by t5.ops refl)
     (λ w i q. absurd (none_other w (among t3.insns w i) q)) (λ v i. absurd (nothing_in v i))
-    (are_one other amo (refl, refl) refl
+    (are_one other amo_of_word (refl, refl) refl
     (whole_op kind.Both (name 1 1 0) other_word 15 0 1 (place 2) refl (omega arith) (omega arith))
     (named_op kind.Both 1 1 other_word (bytes 0) (bytes 1) (place 2) refl refl))
-    (adds_atomic early amo (record {
+    (adds_atomic amo_early_store amo_of_word (record {
       atomic = refl;
-      was = head_in early [];
-      early_on = λ v i. elim (among (early ∷ []) v i) [ inl e ↦ inl e | inr f ↦ absurd f ];
+      was = head_in amo_early_store [];
+      early_on = λ v i. elim (among (amo_early_store ∷ []) v i) [ inl e ↦ inl e | inr f ↦ absurd f ];
       early_back = λ v i. absurd (nothing_in v i);
-      gone = λ i. nothing_in early i;
+      gone = λ i. nothing_in amo_early_store i;
       one = refl;
       same = (refl, refl);
       place = refl;

@@ -13,7 +13,7 @@ use Rattle.rvwmo_model.specs.InForm.{IsPlaced}
 use Rattle.rvwmo_model.proofs.Membership.{nothing_in, head_in}
 use Rattle.growth_laws.specs.Growth.{AddEarly, AddInsn, adds_loads, adds_atomic}
 use Rattle.growth_laws.specs.Laws.{nothing_yet}
-use Rattle.memory_traces.specs.Example.{other_word, name, place, bytes, reserve, plain, success, failure, reserved}
+use Rattle.memory_traces.specs.Example.{other_word, name, place, bytes, reserve, addition, success, failure, lr_of_word}
 use Rattle.memory_traces.specs.Example.{conditional, u1, u2, u3, u4, u5, PairOccurs}
 use Rattle.memory_traces.proofs.ExampleInsns.{whole_op, named_op, before}
 use Rattle.memory_traces.proofs.Formed.{once_by}
@@ -29,16 +29,16 @@ first_old w (inr f) = absurd f
 
 two_old : (w : Retired) → Among w u2.insns → w.tag < 3
 two_old w (inl e) = below w reserve 3 e (omega arith)
-two_old w (inr (inl e)) = below w plain 3 e (omega arith)
+two_old w (inr (inl e)) = below w addition 3 e (omega arith)
 two_old w (inr (inr f)) = absurd f
 
 three_old : (w : Retired) → Among w u4.insns → w.tag < 4
 three_old w (inl e) = below w reserve 4 e (omega arith)
-three_old w (inr (inl e)) = below w plain 4 e (omega arith)
+three_old w (inr (inl e)) = below w addition 4 e (omega arith)
 three_old w (inr (inr (inl e))) = below w success 4 e (omega arith)
 three_old w (inr (inr (inr f))) = absurd f
 
-alone : (a b : Op) (p : Place) → Among a (reserved ∷ []) → Among b (everything u1) → a.place ≡ Some p
+alone : (a b : Op) (p : Place) → Among a (lr_of_word ∷ []) → Among b (everything u1) → a.place ≡ Some p
     → b.place ≡ Some p → a ≡ b
 alone a b p (inl i) (inl j) e q = i ∙ sym j
 alone a b p (inl i) (inr f) e q = absurd f
@@ -47,31 +47,31 @@ alone a b p (inr f) j e q = absurd f
 four_bytes : IsAligned other_word
 four_bytes = (inr (inr (inl refl)), refl)
 
-add_reserve : AddInsn (nothing_yet 16) u1 reserve (reserved ∷ [])
-add_reserve = add_one (nothing_yet 16) reserve reserved [] (λ i j d a b. absurd (omega arith)) (once_by u1.ops refl)
+add_reserve : AddInsn (nothing_yet 16) u1 reserve (lr_of_word ∷ [])
+add_reserve = add_one (nothing_yet 16) reserve lr_of_word [] (λ i j d a b. absurd (omega arith)) (once_by u1.ops refl)
     (λ w i e. absurd (nothing_in w i)) (λ v i. absurd (nothing_in v i))
-    (are_one reserve reserved (refl, refl) refl
+    (are_one reserve lr_of_word (refl, refl) refl
     (whole_op kind.Load (name 0 1 0) other_word 15 0 0 (place 1) refl (omega arith) (omega arith))
     (named_op kind.Load 0 1 other_word (bytes 0) (bytes 0) (place 1) refl refl))
     (adds_loads (record {
       loads = refl;
       early = members_self [];
-      placed = λ v i. elim (among (reserved ∷ []) v i) [
+      placed = λ v i. elim (among (lr_of_word ∷ []) v i) [
         | inl e ↦ subst (λ (z : Op). IsPlaced z) (sym e)
             (record { time = 1; message = 1; insert = 1 }, refl)
         | inr f ↦ absurd f
       ];
-      places = λ a b p i j. alone a b p (among (reserved ∷ []) a i) (among (everything u1) b j);
-      reserves = λ e. (reserved, refl, λ l. four_bytes);
+      places = λ a b p i j. alone a b p (among (lr_of_word ∷ []) a i) (among (everything u1) b j);
+      reserves = λ e. (lr_of_word, refl, λ l. four_bytes);
     }))
 
-add_plain : AddInsn u1 u2 plain []
-add_plain = add_none u1 plain add_reserve.keeps.rising (once_by u1.ops refl)
+add_plain : AddInsn u1 u2 addition []
+add_plain = add_none u1 addition add_reserve.keeps.rising (once_by u1.ops refl)
     (λ w i e. first_old w (among u1.insns w i)) (λ v i. absurd (nothing_in v i)) refl
 
 above_two : (v : Op) → Among v (everything u2) → IsPlaced v → precedes v conditional ≡ true
 unfolding stands_before
-above_two v (inl s) p = before v reserved conditional s refl
+above_two v (inl s) p = before v lr_of_word conditional s refl
 above_two v (inr f) p = absurd f
 
 add_early : AddEarly u2 u3 conditional
@@ -89,14 +89,14 @@ add_early = record {
   fresh = λ v i s. absurd (nothing_in v i);
 }
 
-none_between : SomeBetween (Reserves u4 0) reserved conditional → ⊥
+none_between : SomeBetween (Reserves u4 0) lr_of_word conditional → ⊥
 none_between s =
     let k : s.0 ≡ 2 = (let l = s.1 in let h = s.2 in omega arith) in
     false≢true (subst (λ (n : ℕ). Reserves u4 0 n) k s.3)
 
-pair : IsPair u4 reserved conditional
+pair : IsPair u4 lr_of_word conditional
 pair = record {
-  lr_in = contained u4.ops reserved (inl refl);
+  lr_in = contained u4.ops lr_of_word (inl refl);
   sc_in = contained u4.ops conditional (inr (inl refl));
   one_hart = refl;
   in_order = omega arith;
@@ -122,7 +122,7 @@ add_success = add_one u3 success conditional [] add_plain.keeps.rising (once_by 
       extent = refl;
       mask = refl;
       put = λ x q. refl;
-      pair = λ e. (reserved, pair, λ x c. c);
+      pair = λ e. (lr_of_word, pair, λ x c. c);
     }))
 
 add_failure : AddInsn u4 u5 failure []

@@ -13,11 +13,13 @@ use Rattle.rvwmo_model.specs.declared.instructions.Retired.{Retired}
 use Rattle.rvwmo_model.specs.declared.operations.Op.{Op}
 use Rattle.rvwmo_model.specs.declared.traces.Trace.{Trace}
 use Rattle.rvwmo_model.specs.ProgramOrder.{insn_at, is_one}
-use Rattle.rvwmo_model.specs.InForm.{AreRising, IsWhole, HasOne, IsGranule, InForm}
+use Rattle.rvwmo_model.specs.InForm.{AreRising, IsWhole, HasOne, InForm}
+use Rattle.tandem_base.specs.Granules.{IsGranule}
 use Rattle.rvwmo_model.proofs.Membership.{nothing_in, head_in, tail_in, in_cases}
 use Rattle.rvwmo_model.proofs.Searches.{some_is}
-use Rattle.memory_traces.specs.FormTest.{each_two, lone, follows, one_name, same_place, clash, apart, is_named}
-use Rattle.memory_traces.specs.FormTest.{is_performed, fits, whole, is_of, single, is_granule, is_aligned, in_form}
+use Rattle.memory_traces.specs.FormTest.{each_two, lone, follows, one_name, is_one_place, clash, apart, is_named}
+use Rattle.memory_traces.specs.FormTest.{is_performed, fits, whole, is_of_insn, single, is_granule}
+use Rattle.memory_traces.specs.FormTest.{lr_is_aligned, in_form}
 use Rattle.rv_decode.specs.Kinds.{is_lr, is_sc}
 
 all_in : {X : Type 0} (p : X → Bool) (xs : List X) (x : X) → list_all p xs ≡ true → Contains xs x → p x ≡ true
@@ -101,7 +103,7 @@ name_same m n e =
     (and_from _ _ (eq-eqb _ _ (ap (λ (z : OpName). z.hart) e)) (eq-eqb _ _ (ap (λ (z : OpName). z.tag) e)))
     (eq-eqb _ _ (ap (λ (z : OpName). z.part) e))
 
-place_same : (p : Place) → same_place p p ≡ true
+place_same : (p : Place) → is_one_place p p ≡ true
 place_same p = and_from _ _ (and_from _ _ (eq-eqb p.time p.time refl) (eq-eqb p.message p.message refl))
     (eq-eqb p.insert p.insert refl)
 
@@ -154,10 +156,10 @@ whole_is o e =
 
 single_is : (t : Trace) (w : Retired) → single t.ops w ≡ true → (is_lr w.insn || (is_sc w.insn && w.stored)) ≡ true
     → HasOne t w
-single_is t w e s = elim (or_cases (not (is_lr w.insn || (is_sc w.insn && w.stored))) (lone (is_of w) t.ops) e) [
+single_is t w e s = elim (or_cases (not (is_lr w.insn || (is_sc w.insn && w.stored))) (lone (is_of_insn w) t.ops) e) [
   | inl f ↦ absurd (not_false _ f s)
   | inr l ↦
-      let o = is_lone (is_of w) t.ops l in
+      let o = is_lone (is_of_insn w) t.ops l in
       let q = and_parts (eqb o.0.name.hart w.hart) (eqb o.0.name.tag w.tag) o.2 in (
         o.0,
         o.1,
@@ -214,7 +216,7 @@ length_is o e =
     at true q f = inr (inr (inl (eqb-true _ _ q)))
     at false q f = inr (inr (inr (eqb-true _ _ (and_parts (eqb o.extent.len 8) (ltb o.mask 256) f).0)))
 
-aligned_is : (granule : ℕ) (insns : List Retired) (o : Op) → whole o ≡ true → is_aligned granule insns o ≡ true
+aligned_is : (granule : ℕ) (insns : List Retired) (o : Op) → whole o ≡ true → lr_is_aligned granule insns o ≡ true
     → 0 < granule → is_one is_lr (insn_at insns o.name.hart o.name.tag) ≡ true → IsAligned o.extent
 aligned_is granule insns o w e l r =
     elim (or_cases (eqb granule 0 || not (is_one is_lr (insn_at insns o.name.hart o.name.tag)))
@@ -242,15 +244,15 @@ formed granule insns ops early e = record {
   granule = granule_is granule pg.0;
   aligned =
       λ o i l r. aligned_is granule insns o (all_in whole (ops ++ early) o p0.0 (Contains-append_left ops early o i))
-      (all_in (is_aligned granule insns) ops o pg.1 i) l r;
+      (all_in (lr_is_aligned granule insns) ops o pg.1 i) l r;
 }
   where
     p : (each_two follows insns && list_all (single ops) insns && list_all (is_named insns) ops
         && list_all is_performed early && (list_all whole (ops ++ early) && each_two apart (ops ++ early)) ≡ true)
-        × (is_granule granule && list_all (is_aligned granule insns) ops ≡ true)
+        × (is_granule granule && list_all (lr_is_aligned granule insns) ops ≡ true)
     p = and_parts _ _ e
 
-    pg : (is_granule granule ≡ true) × (list_all (is_aligned granule insns) ops ≡ true)
+    pg : (is_granule granule ≡ true) × (list_all (lr_is_aligned granule insns) ops ≡ true)
     pg = and_parts _ _ p.1
 
     pw : (each_two follows insns && list_all (single ops) insns && list_all (is_named insns) ops

@@ -16,7 +16,7 @@ use Rattle.rvwmo_model.proofs.Extents.{bounds_of}
 use Rattle.rvwmo_model.specs.ProgramOrder.{insn_at}
 use Rattle.rvwmo_model.specs.InForm.{AreRising, IsOf, IsWhole}
 use Rattle.rvwmo_model.proofs.Membership.{nothing_in, head_in, first_in, tail_in, in_cases}
-use Rattle.growth_laws.specs.Kinds.{kind_of, IsNamed}
+use Rattle.growth_laws.specs.Kinds.{kind_of_retired, IsNamed}
 use Rattle.growth_laws.specs.Growth.{SameMembers, AreOf, Adds, adds_nothing, AddInsn}
 
 -- ---- members of a list that is spelled out
@@ -73,10 +73,11 @@ with_one t r o early = record { insns = t.insns ++ r ∷ []; ops = t.ops ++ o �
 only : (o v : Op) → Contains (o ∷ []) v → v ≡ o
 only o v h = elim (in_cases o [] v h) [ inl e ↦ e | inr f ↦ absurd (nothing_in v f) ]
 
-pub are_one : (r : Retired) (o : Op) → IsOf r o → kind_of r ≡ Some o.kind → IsWhole o → IsNamed o → AreOf r (o ∷ [])
+pub are_one : (r : Retired) (o : Op) → IsOf r o → kind_of_retired r ≡ Some o.kind → IsWhole o → IsNamed o
+    → AreOf r (o ∷ [])
 are_one r o own kind whole part = record {
   own = λ v i. subst (λ (z : Op). IsOf r z) (sym (only o v i)) own;
-  kinds = λ v i. subst (λ (z : Op). kind_of r ≡ Some z.kind) (sym (only o v i)) kind;
+  kinds = λ v i. subst (λ (z : Op). kind_of_retired r ≡ Some z.kind) (sym (only o v i)) kind;
   whole = λ v i. subst (λ (z : Op). IsWhole z) (sym (only o v i)) whole;
   parts = λ v i. subst (λ (z : Op). IsNamed z) (sym (only o v i)) part;
   extents = λ a b i j. ap (λ (z : Op). z.extent) (only o a i ∙ sym (only o b j));
@@ -112,7 +113,7 @@ with_none t r = record { insns = t.insns ++ r ∷ []; ops = t.ops; early = t.ear
 
 pub add_none : (t : Trace) (r : Retired) → AreRising t.insns → AllPairs (λ a b. a ≢ b) t.ops → AreOlder t.insns r
     → ((v : Op) → Contains t.early v → v.name.hart ≡ r.hart → r.tag < v.name.tag)
-    → kind_of r ≡ None → AddInsn t (with_none t r) r []
+    → kind_of_retired r ≡ None → AddInsn t (with_none t r) r []
 add_none t r rising once old young kind = record {
   keeps = record {
     insns = λ h k. insn_more t.insns r h k old;

@@ -26,8 +26,8 @@ use Rattle.growth_laws.specs.Growth.{AddEarly, AddInsn, Performs}
 use Rattle.growth_laws.specs.Laws.{nothing_yet}
 
 -- an instruction that retired
-abbrev pub retired : ℕ → ℕ → Insn → Retired
-retired hart tag i = record { hart = hart; tag = tag; insn = i; stored = false }
+abbrev pub retired_insn : ℕ → ℕ → Insn → Retired
+retired_insn hart tag i = record { hart = hart; tag = tag; insn = i; stored = false }
 
 -- two words of memory, of which the first isn't aligned: it may be stored in parts
 abbrev pub word : Extent
@@ -61,8 +61,8 @@ abbrev pub place : ℕ → Option Place
 place n = Some (record { time = n; message = n; insert = n })
 
 -- the place of what the message 5 drains
-abbrev pub drained : ℕ → Option Place
-drained n = Some (record { time = 5; message = 5; insert = n })
+abbrev pub drained_place : ℕ → Option Place
+drained_place n = Some (record { time = 5; message = 5; insert = n })
 
 -- the bytes of a small number
 abbrev pub bytes : ℕ → List ℕ
@@ -70,19 +70,19 @@ bytes n = n ∷ 0 ∷ 0 ∷ 0 ∷ []
 
 -- hart 0 stores 1 and then 2 to the word at 4098, and loads it; hart 1 has an AMO at 8192
 abbrev pub first : Retired
-first = retired 0 1 (insn.Store Sw 10 12 (pos 0))
+first = retired_insn 0 1 (insn.Store Sw 10 12 (pos 0))
 
 -- hart 0: the second store
 abbrev pub second : Retired
-second = retired 0 2 (insn.Store Sw 10 11 (pos 0))
+second = retired_insn 0 2 (insn.Store Sw 10 11 (pos 0))
 
 -- hart 0: the load
 abbrev pub third : Retired
-third = retired 0 3 (insn.Load Lw 5 10 (pos 0))
+third = retired_insn 0 3 (insn.Load Lw 5 10 (pos 0))
 
 -- hart 1: the AMO
 abbrev pub other : Retired
-other = retired 1 1 (insn.Amo Add false false false 5 11 12)
+other = retired_insn 1 1 (insn.Amo Add false false false 5 11 12)
 
 -- the operation of the first store
 abbrev pub first_store : Op
@@ -93,20 +93,20 @@ abbrev pub second_store : Op
 second_store = op kind.Store (name 0 2 0) word 15 (bytes 0) (bytes 2) None
 
 -- the load reads the second store, which is not performed
-abbrev pub load : Op
-load = op kind.Load (name 0 3 0) word 15 (bytes 2) (bytes 0) (place 1)
+abbrev pub load_of_word : Op
+load_of_word = op kind.Load (name 0 3 0) word 15 (bytes 2) (bytes 0) (place 1)
 
 -- the store of the AMO, before it retires
-abbrev pub early : Op
-early = op kind.Store (name 1 1 0) other_word 15 (bytes 0) (bytes 1) (place 2)
+abbrev pub amo_early_store : Op
+amo_early_store = op kind.Store (name 1 1 0) other_word 15 (bytes 0) (bytes 1) (place 2)
 
 -- the operation of the AMO
-abbrev pub amo : Op
-amo = op kind.Both (name 1 1 0) other_word 15 (bytes 0) (bytes 1) (place 2)
+abbrev pub amo_of_word : Op
+amo_of_word = op kind.Both (name 1 1 0) other_word 15 (bytes 0) (bytes 1) (place 2)
 
 -- one message performs the lower half of the second store, then the upper half
 abbrev pub low : Op
-low = op kind.Store (name 0 2 0) word 3 (bytes 0) (bytes 2) (drained 3)
+low = op kind.Store (name 0 2 0) word 3 (bytes 0) (bytes 2) (drained_place 3)
 
 -- what is left of it
 abbrev pub left : Op
@@ -114,7 +114,7 @@ left = op kind.Store (name 0 2 2) word 12 (bytes 0) (bytes 0) None
 
 -- the upper half
 abbrev pub high : Op
-high = op kind.Store (name 0 2 2) word 12 (bytes 0) (bytes 0) (drained 4)
+high = op kind.Store (name 0 2 2) word 12 (bytes 0) (bytes 0) (drained_place 4)
 
 -- a trace without blocks
 abbrev pub trace : List Retired → List Op → List Op → Trace
@@ -130,44 +130,44 @@ t2 = trace (first ∷ second ∷ []) (first_store ∷ second_store ∷ []) []
 
 -- the load retires
 abbrev pub t3 : Trace
-t3 = trace (first ∷ second ∷ third ∷ []) (first_store ∷ second_store ∷ load ∷ []) []
+t3 = trace (first ∷ second ∷ third ∷ []) (first_store ∷ second_store ∷ load_of_word ∷ []) []
 
 -- the store of the AMO is performed
 abbrev pub t4 : Trace
-t4 = trace (first ∷ second ∷ third ∷ []) (first_store ∷ second_store ∷ load ∷ []) (early ∷ [])
+t4 = trace (first ∷ second ∷ third ∷ []) (first_store ∷ second_store ∷ load_of_word ∷ []) (amo_early_store ∷ [])
 
 -- the AMO retires
 abbrev pub t5 : Trace
-t5 = trace (first ∷ second ∷ third ∷ other ∷ []) (first_store ∷ second_store ∷ load ∷ amo ∷ []) []
+t5 = trace (first ∷ second ∷ third ∷ other ∷ []) (first_store ∷ second_store ∷ load_of_word ∷ amo_of_word ∷ []) []
 
 -- the lower half of the second store is performed
 abbrev pub t6 : Trace
-t6 = trace (first ∷ second ∷ third ∷ other ∷ []) (first_store ∷ low ∷ left ∷ load ∷ amo ∷ []) []
+t6 = trace (first ∷ second ∷ third ∷ other ∷ []) (first_store ∷ low ∷ left ∷ load_of_word ∷ amo_of_word ∷ []) []
 
 -- the upper half is
 abbrev pub t7 : Trace
-t7 = trace (first ∷ second ∷ third ∷ other ∷ []) (first_store ∷ low ∷ high ∷ load ∷ amo ∷ []) []
+t7 = trace (first ∷ second ∷ third ∷ other ∷ []) (first_store ∷ low ∷ high ∷ load_of_word ∷ amo_of_word ∷ []) []
 
 -- each growth occurs; and after the last the load has another source, and a pair of rule 1 is broken
 pub record EachGrowthOccurs : Type 0 where
   pub store : AddInsn (nothing_yet 0) t1 first (first_store ∷ [])
   pub younger : AddInsn t1 t2 second (second_store ∷ [])
-  pub loads : AddInsn t2 t3 third (load ∷ [])
-  pub performs_early : AddEarly t3 t4 early
-  pub atomic : AddInsn t4 t5 other (amo ∷ [])
+  pub loads : AddInsn t2 t3 third (load_of_word ∷ [])
+  pub performs_early : AddEarly t3 t4 amo_early_store
+  pub atomic : AddInsn t4 t5 other (amo_of_word ∷ [])
   pub performed : Performs 0 t5 (high ∷ low ∷ []) t7
-  pub source : origin t7 load 4098 ≢ origin t5 load 4098
+  pub source : origin t7 load_of_word 4098 ≢ origin t5 load_of_word 4098
   pub broken : Broken R1 t7 first_store low
 
 -- ---- an LR and its SC
 
 -- hart 0 reserves the word at 8192, adds, stores to it conditionally, and fails to do so again
 abbrev pub reserve : Retired
-reserve = retired 0 1 (insn.Lr false false false 5 10)
+reserve = retired_insn 0 1 (insn.Lr false false false 5 10)
 
 -- the instruction without operations
-abbrev pub plain : Retired
-plain = retired 0 2 (insn.AluImm Addi 6 5 (pos 1))
+abbrev pub addition : Retired
+addition = retired_insn 0 2 (insn.AluImm Addi 6 5 (pos 1))
 
 -- the SC that succeeds
 abbrev pub success : Retired
@@ -175,11 +175,11 @@ success = record { hart = 0; tag = 3; insn = insn.Sc false false false 7 10 6; s
 
 -- the SC that fails
 abbrev pub failure : Retired
-failure = retired 0 4 (insn.Sc false false false 7 10 6)
+failure = retired_insn 0 4 (insn.Sc false false false 7 10 6)
 
 -- the operation of the LR
-abbrev pub reserved : Op
-reserved = op kind.Load (name 0 1 0) other_word 15 (bytes 0) (bytes 0) (place 1)
+abbrev pub lr_of_word : Op
+lr_of_word = op kind.Load (name 0 1 0) other_word 15 (bytes 0) (bytes 0) (place 1)
 
 -- the store of the SC, early and then its operation
 abbrev pub conditional : Op
@@ -191,29 +191,29 @@ blocks insns ops early = record { insns = insns; ops = ops; early = early; granu
 
 -- the LR retires
 abbrev pub u1 : Trace
-u1 = blocks (reserve ∷ []) (reserved ∷ []) []
+u1 = blocks (reserve ∷ []) (lr_of_word ∷ []) []
 
 -- the addition retires
 abbrev pub u2 : Trace
-u2 = blocks (reserve ∷ plain ∷ []) (reserved ∷ []) []
+u2 = blocks (reserve ∷ addition ∷ []) (lr_of_word ∷ []) []
 
 -- the store of the SC is performed
 abbrev pub u3 : Trace
-u3 = blocks (reserve ∷ plain ∷ []) (reserved ∷ []) (conditional ∷ [])
+u3 = blocks (reserve ∷ addition ∷ []) (lr_of_word ∷ []) (conditional ∷ [])
 
 -- the SC retires
 abbrev pub u4 : Trace
-u4 = blocks (reserve ∷ plain ∷ success ∷ []) (reserved ∷ conditional ∷ []) []
+u4 = blocks (reserve ∷ addition ∷ success ∷ []) (lr_of_word ∷ conditional ∷ []) []
 
 -- the other SC retires
 abbrev pub u5 : Trace
-u5 = blocks (reserve ∷ plain ∷ success ∷ failure ∷ []) (reserved ∷ conditional ∷ []) []
+u5 = blocks (reserve ∷ addition ∷ success ∷ failure ∷ []) (lr_of_word ∷ conditional ∷ []) []
 
 -- an LR, an instruction without operations, the early store of an SC, the SC with its pair, and a failed SC occur
 pub record PairOccurs : Type 0 where
-  pub reserves : AddInsn (nothing_yet 16) u1 reserve (reserved ∷ [])
-  pub nothing : AddInsn u1 u2 plain []
+  pub reserves : AddInsn (nothing_yet 16) u1 reserve (lr_of_word ∷ [])
+  pub nothing : AddInsn u1 u2 addition []
   pub performs_early : AddEarly u2 u3 conditional
   pub stores : AddInsn u3 u4 success (conditional ∷ [])
-  pub pair : IsPair u4 reserved conditional
+  pub pair : IsPair u4 lr_of_word conditional
   pub fails : AddInsn u4 u5 failure []

@@ -29,12 +29,12 @@ abbrev pub one_name : OpName → OpName → Bool
 one_name m n = (m.hart == n.hart) && (m.tag == n.tag) && (m.part == n.part)
 
 -- the places are the same
-abbrev pub same_place : Place → Place → Bool
-same_place p q = (p.time == q.time) && (p.message == q.message) && (p.insert == q.insert)
+abbrev pub is_one_place : Place → Place → Bool
+is_one_place p q = (p.time == q.time) && (p.message == q.message) && (p.insert == q.insert)
 
 -- they have one place, or none and are of one instruction
 abbrev pub clash : Option Place → Option Place → Bool → Bool
-clash (Some p) (Some q) one = same_place p q
+clash (Some p) (Some q) one = is_one_place p q
 clash None None one = one
 clash (Some p) None one = false
 clash None (Some q) one = false
@@ -63,8 +63,8 @@ whole o =
     nat_lt 0 o.mask && fits o.mask o.extent.len && (length o.got == o.extent.len) && (length o.put == o.extent.len)
 
 -- o is an operation of w
-abbrev pub is_of : Retired → Op → Bool
-is_of w o = (o.name.hart == w.hart) && (o.name.tag == w.tag)
+abbrev pub is_of_insn : Retired → Op → Bool
+is_of_insn w o = (o.name.hart == w.hart) && (o.name.tag == w.tag)
 
 -- an LR, or an SC that stored
 abbrev pub reserves : Retired → Bool
@@ -72,15 +72,15 @@ reserves w = is_lr w.insn || (is_sc w.insn && w.stored)
 
 -- these have one operation
 abbrev pub single : List Op → Retired → Bool
-single ops w = not (reserves w) || lone (is_of w) ops
+single ops w = not (reserves w) || lone (is_of_insn w) ops
 
 -- no block, or one of 8, 16, 32 or 64 bytes
 abbrev pub is_granule : ℕ → Bool
 is_granule g = (g == 0) || (g == 8) || (g == 16) || (g == 32) || (g == 64)
 
 -- where there is a block, the address of an operation of an LR is a multiple of its length
-abbrev pub is_aligned : ℕ → List Retired → Op → Bool
-is_aligned granule insns o =
+abbrev pub lr_is_aligned : ℕ → List Retired → Op → Bool
+lr_is_aligned granule insns o =
     (granule == 0) || not (is_one is_lr (insn_at insns o.name.hart o.name.tag))
     || (o.extent.addr % o.extent.len == 0)
 
@@ -90,4 +90,4 @@ in_form granule insns ops early =
     each_two follows insns && list_all (single ops) insns && list_all (is_named insns) ops
     && list_all is_performed early
     && (list_all whole (ops ++ early) && each_two apart (ops ++ early))
-    && (is_granule granule && list_all (is_aligned granule insns) ops)
+    && (is_granule granule && list_all (lr_is_aligned granule insns) ops)

@@ -7,7 +7,7 @@ use Rattle.rvwmo_model.specs.declared.traces.Trace.{Trace}
 use Rattle.rvwmo_model.specs.Rules.{Broken, Rule}
 use Rattle.rvwmo_model.specs.Legal.{Legal}
 use Rattle.rvwmo_model.specs.InForm.{InForm}
-use Rattle.rvwmo_model.specs.Report.{IsReported, AllPaired, AllRight, AllOrdered, IsAnswer}
+use Rattle.rvwmo_model.specs.Report.{IsReportedPair, AllPaired, AllRight, AllOrdered, IsAnswer}
 use Rattle.rvwmo_model.specs.Laws.{ReportIsWhereBroken}
 use Rattle.rvwmo_model.specs.Answer.{pair_answer, value_answer, order_answer, atomicity_answer, legal_unless, answer}
 use Rattle.std.specs.Prelude.{◌↔◌, IfOk}
@@ -30,7 +30,17 @@ answer_is initial t f = at_pair (pair_answer t) refl
         → IsAnswer initial t (legal_unless (o or_else atomicity_answer t))
     at_order p v None e = at_atomicity p v (order_none t f e) (atomicity_answer t) refl
     at_order p v (Some j) e = let n = order_found t f j e in
-        subst (IsAnswer initial t) n.named (p, v, (n.rule, n.first, n.second, refl, refl, refl, n.reported))
+        subst (IsAnswer initial t) n.named (record {
+          paired = p;
+          right = v;
+          broken = n.rule;
+          before = n.first;
+          after = n.second;
+          numbered = refl;
+          first_named = refl;
+          second_named = refl;
+          reported = n.reported;
+        })
 
     at_value : AllPaired t → (o : Option Judged) → value_answer initial t ≡ o
         → IsAnswer initial t (legal_unless (o or_else (order_answer t or_else atomicity_answer t)))
@@ -48,18 +58,19 @@ pub reported_where : ReportIsWhereBroken
 reported_where t f = ((λ h. (h.0, h.1, h.2, h.3.first.here)), λ h. at h (order_answer t) refl)
   where
     at : (k : Rule) × (a : Op) × (b : Op) × Broken k t a b → (o : Option Judged) → order_answer t ≡ o → (k : Rule)
-        × (a : Op) × (b : Op) × IsReported t k a b
+        × (a : Op) × (b : Op) × IsReportedPair t k a b
     at h None e = absurd (order_none t f e h.0 h.1 h.2 h.3)
     at h (Some j) e = let n = order_found t f j e in (n.rule, n.first, n.second, n.reported)
 
 -- the answer is Legal exactly where the trace is legal
 pub legal_is : (initial : ℕ → ℕ) (t : Trace) (j : Judged) → IsAnswer initial t j → (j ≡ judged.Legal) ↔ Legal initial t
 legal_is initial t judged.Legal h = ((λ e. h), λ l. refl)
-legal_is initial t (judged.Pair name) h = ((λ e. absurd (cc)), λ l. absurd (l.paired h.0 h.2.offends))
-legal_is initial t (judged.Value name x want got) h = ((λ e. absurd (cc)), λ l. absurd (l.valued h.1.0 x h.1.3.here))
+legal_is initial t (judged.Pair name) h = ((λ e. absurd (cc)), λ l. absurd (l.paired h.sc h.least.offends))
+legal_is initial t (judged.Value name x want got) h =
+    ((λ e. absurd (cc)), λ l. absurd (l.valued h.load x h.lowest.here))
 legal_is initial t (judged.Order rule first second) h =
-    ((λ e. absurd (cc)), λ l. absurd (l.ordered h.2.0 h.2.1 h.2.2 h.2.6.first.here))
-legal_is initial t (judged.Atomicity name x store) h = ((λ e. absurd (cc)), λ l. absurd (l.atomic h.3.1 h.3.0 h.3.5))
+    ((λ e. absurd (cc)), λ l. absurd (l.ordered h.broken h.before h.after h.reported.first.here))
+legal_is initial t (judged.Atomicity name x store) h = ((λ e. absurd (cc)), λ l. absurd (l.atomic h.lr h.sc h.torn))
 
 -- what answers with it answers rightly, and Legal exactly where the trace is legal
 pub answers_is : {E : Type 0} (initial : ℕ → ℕ) (t : Trace) (r : Result Judged E) → InForm t

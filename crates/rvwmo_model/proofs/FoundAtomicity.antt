@@ -9,15 +9,15 @@ use Rattle.rvwmo_model.specs.declared.answers.Judged.{Judged}
 use Rattle.rvwmo_model.specs.declared.answers.Judged.TheVariants as judged
 use Rattle.rvwmo_model.specs.declared.operations.Op.{Op}
 use Rattle.rvwmo_model.specs.declared.traces.Trace.{Trace}
-use Rattle.rvwmo_model.specs.Order.{loads, stores, has_byte, reads, writes, precedes, everything}
+use Rattle.rvwmo_model.specs.Order.{op_loads, op_stores, has_byte, reads, writes, precedes, everything}
 use Rattle.rvwmo_model.specs.Sources.{source, key_of}
 use Rattle.rvwmo_model.specs.Atomicity.{WritesBlock, IsAfter, IsLate, Intrudes, IsTornAt, InBlock, IntrudesBlock, Torn}
 use Rattle.rvwmo_model.specs.InForm.{InForm}
-use Rattle.rvwmo_model.specs.Report.{IsLeast, IsLatest, IsTorn, IsForeign, Blamed, late, foreign, Shown, byte, block}
+use Rattle.rvwmo_model.specs.Report.{IsLeast, IsLatest, IsTorn, IsForeign, Blamed, late, foreign, TornBy, byte, block}
 use Rattle.rvwmo_model.specs.Report.{AllPaired, AllRight, AllOrdered, IsAnswer}
 use Rattle.rvwmo_model.specs.Tests.{is_pair, some_everywhere, latest_everywhere, is_other_before, is_foreign}
 use Rattle.rvwmo_model.specs.Tests.{is_after, is_late, intrudes, is_torn_at, torn_byte, in_block, writes_block}
-use Rattle.rvwmo_model.specs.Tests.{block_byte, intrudes_block, is_torn}
+use Rattle.rvwmo_model.specs.Tests.{block_byte, intrudes_block, is_pair_torn}
 use Rattle.rvwmo_model.specs.Answer.{has_torn, least_of, torn_at, blamed, block_at, block_of, torn_of, pair_torn}
 use Rattle.rvwmo_model.specs.Answer.{atomicity_of, atomicity_answer}
 use Rattle.rvwmo_model.proofs.Searches.{not_false}
@@ -77,7 +77,7 @@ module _ (t : Trace) (form : InForm t) where
     on = λ x. both_is _ _ _ _ (itself_is (reads x r))
         (either_is _ _ _ _ (late_is (source t r x) w)
         (some_anywhere _ (λ v. Intrudes t r w v x) t (intrudes_computes r w x)));
-    own = λ x e. (and_parts (loads r) (has_byte x r) (and_parts (reads x r) _ e).0).1;
+    own = λ x e. (and_parts (op_loads r) (has_byte x r) (and_parts (reads x r) _ e).0).1;
   }
 
   in_block_is : (r : Op) (x : ℕ) → Decides (in_block t r x) (InBlock t r x)
@@ -87,7 +87,7 @@ module _ (t : Trace) (form : InForm t) where
   block_computes : (r v : Op) → ComputesByte (writes_block t r v) (WritesBlock t r v) v
   block_computes r v = record {
     on = λ x. both_is _ _ _ _ (itself_is (writes x v)) (in_block_is r x);
-    own = λ x e. (and_parts (stores v) (has_byte x v) (and_parts (writes x v) (in_block t r x) e).0).1;
+    own = λ x e. (and_parts (op_stores v) (has_byte x v) (and_parts (writes x v) (in_block t r x) e).0).1;
   }
 
   intrudes_block_computes : (r w : Op) → Computes (intrudes_block t r w) (IntrudesBlock t r w) (everything t)
@@ -110,7 +110,7 @@ module _ (t : Trace) (form : InForm t) where
     only = λ v h. h.store_in;
   }
 
-  torn_is : (r w : Op) → Contains t.ops r → Contains t.ops w → Decides (is_torn t r w) (Torn t r w)
+  torn_is : (r w : Op) → Contains t.ops r → Contains t.ops w → Decides (is_pair_torn t r w) (Torn t r w)
   torn_is r w hr hw = (
     (λ e. let p = and_parts (is_pair t r w) (is_some (torn_byte t r w) || some_everywhere (intrudes_block t r w) t)
         e in record { pair = (pair_is t form r w hr hw).0 p.0; torn = ways.0 p.1 }),
@@ -122,20 +122,20 @@ module _ (t : Trace) (form : InForm t) where
       ways = either_is _ _ _ _ (some_lowest _ (IsTornAt t r w) r (torn_at_computes r w))
           (some_anywhere _ (IntrudesBlock t r w) t (intrudes_block_computes r w))
 
-  lr_computes : (w : Op) → Contains t.ops w → Computes (λ r. is_torn t r w) (λ r. Torn t r w) t.ops
+  pub lr_computes : (w : Op) → Contains t.ops w → Computes (λ r. is_pair_torn t r w) (λ r. Torn t r w) t.ops
   lr_computes w hw = record { on = λ r hr. torn_is r w hr hw; only = λ r h. h.pair.lr_in }
 
-  sc_computes : Computes (has_torn t) (IsTorn t) t.ops
+  pub sc_computes : Computes (has_torn t) (IsTorn t) t.ops
   unfolding has_torn
   sc_computes =
       record { on = λ w hw. some_member _ (λ r. Torn t r w) t.ops (lr_computes w hw); only = λ w h. h.1.pair.sc_in }
 
   -- what is named for a torn pair
-  record Named (r w : Op) (j : Judged) : Type 0 where
-    at : ℕ
-    store : Op
-    named : judged.Atomicity w.name at (key_of store) ≡ j
-    shown : Shown t r w at store
+  pub record Named (r w : Op) (j : Judged) : Type 0 where
+    pub at : ℕ
+    pub store : Op
+    pub named : judged.Atomicity w.name at (key_of store) ≡ j
+    pub shown : TornBy t r w at store
 
   blamed_found : (r w : Op) (x : ℕ) (s : Op) → blamed t w x (source t r x) ≡ Some s → Blamed t r w x s
   blamed_found r w x s e = look (source t r x) refl e
@@ -172,7 +172,7 @@ module _ (t : Trace) (form : InForm t) where
                     u.1 i
               ]
 
-  torn_found : (r w : Op) (j : Judged) → torn_of t r w (torn_byte t r w) ≡ Some j → Named r w j
+  pub torn_found : (r w : Op) (j : Judged) → torn_of t r w (torn_byte t r w) ≡ Some j → Named r w j
   torn_found r w j e = look (torn_byte t r w) refl e
     where
       by_byte : (x : ℕ) → torn_byte t r w ≡ Some x → (m : Option Op) → blamed t w x (source t r x) ≡ m
@@ -208,7 +208,7 @@ module _ (t : Trace) (form : InForm t) where
       look None f g = last f (latest_everywhere (intrudes_block t r w) t) refl g
       look (Some x) f g = by_byte x f (blamed t w x (source t r x)) refl g
 
-  torn_none : (r w : Op) → Torn t r w → torn_of t r w (torn_byte t r w) ≡ None → ⊥
+  pub torn_none : (r w : Op) → Torn t r w → torn_of t r w (torn_byte t r w) ≡ None → ⊥
   torn_none r w torn e = look (torn_byte t r w) refl e
     where
       by_byte : (x : ℕ) → torn_byte t r w ≡ Some x → (m : Option Op) → blamed t w x (source t r x) ≡ m
@@ -239,23 +239,35 @@ module _ (t : Trace) (form : InForm t) where
         → IsAnswer initial t j
     atomicity_found j paired right ordered e = look (least_of (has_torn t) t.ops) refl e
       where
-        with_lr : (w : Op) → IsLeast (IsTorn t) w → (m : Option Op) → least_of (λ r. is_torn t r w) t.ops ≡ m
+        with_lr : (w : Op) → IsLeast (IsTorn t) w → (m : Option Op) → least_of (λ r. is_pair_torn t r w) t.ops ≡ m
             → pair_torn t w m ≡ Some j → IsAnswer initial t j
         with_lr w l None f g = absurd (cc)
         with_lr w l (Some r) f g =
             let n = torn_found r w j g in
             let torn = (least_member _ (λ v. Torn t v w) t.ops r (lr_computes w l.offends.1.pair.sc_in) f).offends in
-            subst (IsAnswer initial t) n.named (paired, right, ordered, (w, r, n.store, refl, l, torn, n.shown, refl))
+            subst (IsAnswer initial t) n.named (record {
+              paired = paired;
+              right = right;
+              ordered = ordered;
+              sc = w;
+              lr = r;
+              blamed = n.store;
+              named = refl;
+              least = l;
+              torn = torn;
+              shown = n.shown;
+              keyed = refl;
+            })
 
         look : (o : Option Op) → least_of (has_torn t) t.ops ≡ o → atomicity_of t o ≡ Some j → IsAnswer initial t j
         look None f g = absurd (cc)
         look (Some w) f g = with_lr w (least_member _ (IsTorn t) t.ops w sc_computes f)
-            (least_of (λ r. is_torn t r w) t.ops) refl g
+            (least_of (λ r. is_pair_torn t r w) t.ops) refl g
 
   pub atomicity_none : atomicity_answer t ≡ None → (r w : Op) → Torn t r w → ⊥
   atomicity_none e = look (least_of (has_torn t) t.ops) refl e
     where
-      with_lr : (w : Op) → IsLeast (IsTorn t) w → (m : Option Op) → least_of (λ r. is_torn t r w) t.ops ≡ m
+      with_lr : (w : Op) → IsLeast (IsTorn t) w → (m : Option Op) → least_of (λ r. is_pair_torn t r w) t.ops ≡ m
           → pair_torn t w m ≡ None → ⊥
       with_lr w l None f g = no_member _ (λ r. Torn t r w) t.ops (lr_computes w l.offends.1.pair.sc_in) f l.offends.0
           l.offends.1
@@ -265,5 +277,5 @@ module _ (t : Trace) (form : InForm t) where
       look : (o : Option Op) → least_of (has_torn t) t.ops ≡ o → atomicity_of t o ≡ None → (r w : Op) → Torn t r w → ⊥
       look None f g = λ r w h. no_member _ (IsTorn t) t.ops sc_computes f w (r, h)
       look (Some w) f g =
-          absurd (with_lr w (least_member _ (IsTorn t) t.ops w sc_computes f) (least_of (λ r. is_torn t r w) t.ops)
+          absurd (with_lr w (least_member _ (IsTorn t) t.ops w sc_computes f) (least_of (λ r. is_pair_torn t r w) t.ops)
           refl g)

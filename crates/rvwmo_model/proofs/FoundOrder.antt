@@ -8,9 +8,10 @@ use Rattle.rvwmo_model.specs.declared.operations.Op.{Op}
 use Rattle.rvwmo_model.specs.declared.traces.Trace.{Trace}
 use Rattle.rvwmo_model.specs.Rules.{Broken, Rule, R1, R2, R3, R4, R5, R6, R7, R8, R9, R10, R11, R12, R13}
 use Rattle.rvwmo_model.specs.InForm.{InForm}
-use Rattle.rvwmo_model.specs.Report.{number, IsLeast, IsLatest, IsSecond, IsReported, AllOrdered}
+use Rattle.rvwmo_model.specs.Report.{number, IsLeast, IsLatest, IsSecond, IsReportedPair, AllOrdered}
 use Rattle.rvwmo_model.specs.Tests.{is_broken}
-use Rattle.rvwmo_model.specs.Answer.{has_first, first_of, second_of, order_pair, order_of, order_from, all_rules}
+use Rattle.rvwmo_model.specs.Answer.{has_first, broken_first, broken_second, order_pair}
+use Rattle.rvwmo_model.specs.Answer.{order_of, order_from, all_rules}
 use Rattle.rvwmo_model.specs.Answer.{order_answer}
 use Rattle.rvwmo_model.proofs.Tested.{broken_is}
 use Rattle.rvwmo_model.proofs.Membership.{nothing_in, in_cases}
@@ -87,10 +88,10 @@ module _ (t : Trace) (form : InForm t) where
     least : IsLeast (IsSecond k t) second
     latest : IsLatest (λ a. Broken k t a second) first
 
-  rule_found : (k : Rule) (j : Judged) → order_of k t (second_of k t) ≡ Some j → Chosen k j
-  rule_found k j e = at (second_of k t) refl e
+  rule_found : (k : Rule) (j : Judged) → order_of k t (broken_second k t) ≡ Some j → Chosen k j
+  rule_found k j e = at (broken_second k t) refl e
     where
-      found : (b : Op) → IsLeast (IsSecond k t) b → (m : Option Op) → first_of k t b ≡ m → order_pair k b m ≡ Some j
+      found : (b : Op) → IsLeast (IsSecond k t) b → (m : Option Op) → broken_first k t b ≡ m → order_pair k b m ≡ Some j
           → Chosen k j
       found b l None f g = absurd (cc)
       found b l (Some a) f g =
@@ -103,22 +104,24 @@ module _ (t : Trace) (form : InForm t) where
                 a (first_computes k b l.offends.1.second_in) f;
           }
 
-      at : (o : Option Op) → second_of k t ≡ o → order_of k t o ≡ Some j → Chosen k j
+      at : (o : Option Op) → broken_second k t ≡ o → order_of k t o ≡ Some j → Chosen k j
       at None f g = absurd (cc)
-      at (Some b) f g = found b (least_member _ (IsSecond k t) t.ops b (second_computes k) f) (first_of k t b) refl g
+      at (Some b) f g = found b (least_member _ (IsSecond k t) t.ops b (second_computes k) f)
+          (broken_first k t b) refl g
 
-  rule_none : (k : Rule) → order_of k t (second_of k t) ≡ None → (a b : Op) → Broken k t a b → ⊥
-  rule_none k e = at (second_of k t) refl e
+  rule_none : (k : Rule) → order_of k t (broken_second k t) ≡ None → (a b : Op) → Broken k t a b → ⊥
+  rule_none k e = at (broken_second k t) refl e
     where
-      found : (b : Op) → IsLeast (IsSecond k t) b → (m : Option Op) → first_of k t b ≡ m → order_pair k b m ≡ None → ⊥
+      found : (b : Op) → IsLeast (IsSecond k t) b → (m : Option Op) → broken_first k t b ≡ m
+          → order_pair k b m ≡ None → ⊥
       found b l None f g = no_latest _ (λ c. Broken k t c b) t.ops (first_computes k b l.offends.1.second_in) f
           l.offends.0 l.offends.1
       found b l (Some a) f g = cc
 
-      at : (o : Option Op) → second_of k t ≡ o → order_of k t o ≡ None → (a b : Op) → Broken k t a b → ⊥
+      at : (o : Option Op) → broken_second k t ≡ o → order_of k t o ≡ None → (a b : Op) → Broken k t a b → ⊥
       at None f g = λ a b h. no_member _ (IsSecond k t) t.ops (second_computes k) f b (a, h)
       at (Some b) f g =
-          absurd (found b (least_member _ (IsSecond k t) t.ops b (second_computes k) f) (first_of k t b) refl g)
+          absurd (found b (least_member _ (IsSecond k t) t.ops b (second_computes k) f) (broken_first k t b) refl g)
 
   record ChosenFrom (ks : List Rule) (j : Judged) : Type 0 where
     rule : Rule
@@ -127,9 +130,9 @@ module _ (t : Trace) (form : InForm t) where
 
   rules_found : (n : ℕ) (ks : List Rule) (j : Judged) → Above n ks → order_from t ks ≡ Some j → ChosenFrom ks j
   rules_found n [] j a e = absurd (cc)
-  rules_found n (k ∷ ks) j a e = at (order_of k t (second_of k t)) refl e (rules_found (number k) ks j a.1)
+  rules_found n (k ∷ ks) j a e = at (order_of k t (broken_second k t)) refl e (rules_found (number k) ks j a.1)
     where
-      at : (o : Option Judged) → order_of k t (second_of k t) ≡ o → (o or_else order_from t ks) ≡ Some j
+      at : (o : Option Judged) → order_of k t (broken_second k t) ≡ o → (o or_else order_from t ks) ≡ Some j
           → (order_from t ks ≡ Some j → ChosenFrom ks j) → ChosenFrom (k ∷ ks) j
       at (Some i) f g rec = record {
         rule = k;
@@ -155,9 +158,9 @@ module _ (t : Trace) (form : InForm t) where
 
   rules_none : (ks : List Rule) → order_from t ks ≡ None → (k : Rule) → Contains ks k → (a b : Op) → Broken k t a b → ⊥
   rules_none [] e k h = absurd (nothing_in k h)
-  rules_none (v ∷ vs) e k h = at (order_of v t (second_of v t)) refl e (λ g. rules_none vs g k)
+  rules_none (v ∷ vs) e k h = at (order_of v t (broken_second v t)) refl e (λ g. rules_none vs g k)
     where
-      at : (o : Option Judged) → order_of v t (second_of v t) ≡ o → (o or_else order_from t vs) ≡ None
+      at : (o : Option Judged) → order_of v t (broken_second v t) ≡ o → (o or_else order_from t vs) ≡ None
           → (order_from t vs ≡ None → Contains vs k → (a b : Op) → Broken k t a b → ⊥) → (a b : Op) → Broken k t a b → ⊥
       at (Some i) f g rec = absurd (cc)
       at None f g rec =
@@ -172,7 +175,7 @@ module _ (t : Trace) (form : InForm t) where
     pub first : Op
     pub second : Op
     pub named : judged.Order (number rule) first.name second.name ≡ j
-    pub reported : IsReported t rule first second
+    pub reported : IsReportedPair t rule first second
 
   pub order_found : (j : Judged) → order_answer t ≡ Some j → Reported j
   order_found j e =

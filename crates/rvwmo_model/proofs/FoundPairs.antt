@@ -9,18 +9,18 @@ use Rattle.rvwmo_model.specs.declared.operations.Op.{Op}
 use Rattle.rvwmo_model.specs.declared.traces.Trace.{Trace}
 use Rattle.rvwmo_model.specs.Order.{has_byte}
 use Rattle.rvwmo_model.specs.ProgramOrder.{insn_of}
-use Rattle.rvwmo_model.specs.Atomicity.{IsPair, IsWithin, Unpaired}
+use Rattle.rvwmo_model.specs.Atomicity.{IsPair, IsCoveredBy, Unpaired}
 use Rattle.rvwmo_model.specs.InForm.{InForm}
 use Rattle.rvwmo_model.specs.Report.{AllPaired, IsAnswer}
 use Rattle.rvwmo_model.specs.Search.{some_byte}
-use Rattle.rvwmo_model.specs.Tests.{is_pair_of, is_pair, is_within, is_unpaired}
+use Rattle.rvwmo_model.specs.Tests.{is_pair_of, is_pair, is_covered_by, is_unpaired}
 use Rattle.rvwmo_model.specs.Answer.{least_of, pair_of, pair_answer}
 use Rattle.rvwmo_model.proofs.Searches.{some_byte_is, not_true, not_false}
 use Rattle.rvwmo_model.proofs.Tested.{both_is, paired_is}
 use Rattle.rvwmo_model.proofs.Choices.{Computes, some_member, least_member, no_member}
 use Rattle.rvwmo_model.specs.InsnKinds.{has_stored}
 
-within_is : (w r : Op) → Decides (is_within w r) (IsWithin w r)
+within_is : (w r : Op) → Decides (is_covered_by w r) (IsCoveredBy w r)
 within_is w r = (
   (λ e x c.
       elim (cases_Bool (has_byte x r)) [
@@ -62,13 +62,15 @@ module _ (t : Trace) (form : InForm t) where
   unpaired_is : (w : Op) → Contains t.ops w → Decides (is_unpaired t w) (Unpaired t w)
   unpaired_is w hw = (
     (λ e.
-        let p = and_parts (has_stored (insn_of t w)) (not (list_any (λ r. is_pair t r w && is_within w r) t.ops)) e in
+        let p = and_parts (has_stored (insn_of t w)) (not (list_any (λ r. is_pair t r w && is_covered_by w r) t.ops))
+        e in
         record { sc_in = hw; stored = p.0; alone = λ r h c. both_ways _ (not_false _ p.1) (found.1 (r, (h, c))) }),
     λ h. and_from _ _ h.stored (ap not (not_true _ (λ e. let f = found.0 e in h.alone f.0 f.1.0 f.1.1))),
   )
     where
-      found : Decides (list_any (λ r. is_pair t r w && is_within w r) t.ops) ((r : Op) × (IsPair t r w × IsWithin w r))
-      found = some_member (λ r. is_pair t r w && is_within w r) (λ r. IsPair t r w × IsWithin w r) t.ops
+      found : Decides (list_any (λ r. is_pair t r w && is_covered_by w r) t.ops)
+          ((r : Op) × (IsPair t r w × IsCoveredBy w r))
+      found = some_member (λ r. is_pair t r w && is_covered_by w r) (λ r. IsPair t r w × IsCoveredBy w r) t.ops
           (record { on = λ r hr. both_is _ _ _ _ (pair_is r w hr hw) (within_is w r); only = λ r h. h.0.lr_in })
 
   unpaired_computes : Computes (is_unpaired t) (Unpaired t) t.ops
@@ -81,7 +83,11 @@ module _ (t : Trace) (form : InForm t) where
       at None f g = absurd (cc)
       at (Some w) f g = let same : judged.Pair w.name ≡ j =
           cc in subst (IsAnswer initial t) same
-          (w, refl, least_member (is_unpaired t) (Unpaired t) t.ops w unpaired_computes f)
+          (record {
+            sc = w;
+            named = refl;
+            least = least_member (is_unpaired t) (Unpaired t) t.ops w unpaired_computes f;
+          })
 
   pub pair_none : pair_answer t ≡ None → AllPaired t
   pair_none e = at (least_of (is_unpaired t) t.ops) refl e

@@ -7,7 +7,7 @@ use Rattle.rvwmo_model.specs.declared.answers.Judged.{Judged}
 use Rattle.rvwmo_model.specs.declared.answers.Judged.TheVariants as judged
 use Rattle.rvwmo_model.specs.declared.operations.Op.{Op}
 use Rattle.rvwmo_model.specs.declared.traces.Trace.{Trace}
-use Rattle.rvwmo_model.specs.Order.{loads, has_byte, reads, got_at}
+use Rattle.rvwmo_model.specs.Order.{op_loads, has_byte, reads, got_at}
 use Rattle.rvwmo_model.specs.Sources.{source, byte_from}
 use Rattle.rvwmo_model.specs.Legal.{WrongValue}
 use Rattle.rvwmo_model.specs.InForm.{InForm}
@@ -20,7 +20,7 @@ use Rattle.rvwmo_model.proofs.Choices.{some_lowest}
 
 module _ (t : Trace) (form : InForm t) where
   module _ (initial : ℕ → ℕ) where
-    wrong_computes : (i : Op) → Contains t.ops i → ComputesByte (is_wrong initial t i) (WrongValue initial t i) i
+    pub wrong_computes : (i : Op) → Contains t.ops i → ComputesByte (is_wrong initial t i) (WrongValue initial t i) i
     wrong_computes i hi = record {
       on = λ x. (
         (λ e.
@@ -28,7 +28,7 @@ module _ (t : Trace) (form : InForm t) where
             record { load_in = hi; loads = p.0; wrong = λ q. both_ways _ (not_false _ p.1) (eq-eqb _ _ q) }),
         λ h. and_from _ _ h.loads (ap not (not_true _ (λ q. h.wrong (eqb-true _ _ q)))),
       );
-      own = λ x e. (and_parts (loads i) (has_byte x i) (and_parts (reads x i) _ e).0).1;
+      own = λ x e. (and_parts (op_loads i) (has_byte x i) (and_parts (reads x i) _ e).0).1;
     }
 
     has_wrong_computes : Computes (λ i. is_some (wrong_byte initial t i)) (HasWrong initial t) t.ops
@@ -46,18 +46,16 @@ module _ (t : Trace) (form : InForm t) where
         found i l None f g = absurd (cc)
         found i l (Some x) f g =
             let same : judged.Value i.name x (byte_from initial (source t i x) x) (got_at i x) ≡ j = cc in
-            subst (IsAnswer initial t) same (
-              all,
-              (
-                i,
-                refl,
-                l,
-                lowest_byte (is_wrong initial t i) (WrongValue initial t i) i x
-                    (wrong_computes i l.offends.1.load_in) f,
-                refl,
-                refl,
-              ),
-            )
+            subst (IsAnswer initial t) same (record {
+              paired = all;
+              load = i;
+              named = refl;
+              least = l;
+              lowest = lowest_byte (is_wrong initial t i) (WrongValue initial t i) i x
+                  (wrong_computes i l.offends.1.load_in) f;
+              wanted = refl;
+              loaded = refl;
+            })
 
         at : (o : Option Op) → least_of (λ i. is_some (wrong_byte initial t i)) t.ops ≡ o
             → value_of initial t o ≡ Some j → IsAnswer initial t j

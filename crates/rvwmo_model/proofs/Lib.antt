@@ -3,10 +3,13 @@ pub mod Asked
 pub mod Choices
 pub mod Extents
 pub mod FoundAtomicity
+pub mod FoundLast
 pub mod FoundOrder
 pub mod FoundPairs
 pub mod FoundValues
 pub mod Latest
+pub mod LastAnswered
+pub mod LastUnique
 pub mod LookUp
 pub mod Marks
 pub mod Membership

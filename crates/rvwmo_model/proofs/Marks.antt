@@ -15,7 +15,7 @@ use Rattle.rv_decode.specs.declared.registers.Register.TheVariants as register
 use Rattle.rvwmo_model.specs.Walk.{fresh, list_of, mark}
 use Rattle.rvwmo_model.proofs.Searches.{not_false}
 use Rattle.rvwmo_model.proofs.Membership.{nothing_in, head_in, in_cases, in_filter, from_filter}
-use Rattle.rv_decode.specs.Registers.{is_x, is_csr, sets, carries, writes_csr, rd_of, csr_of}
+use Rattle.rv_decode.specs.Registers.{is_x, is_csr, sets, carries, writes_csr, named_rd, named_csr}
 
 -- a register that an instruction sets is its rd or its CSR
 x_is : (n : ℕ) (q : Register) → is_x n q ≡ true → q ≡ register.X n
@@ -27,7 +27,7 @@ csr_is n (register.X m) e = absurd (false≢true e)
 csr_is n (register.Csr m) e = ap (λ (k : ℕ). register.Csr k) (eqb-true m n e)
 
 abbrev IsTarget : Insn → Register → Type 0
-IsTarget w q = (rd_of w ≡ Some q) ⊎ (csr_of w ≡ Some q)
+IsTarget w q = (named_rd w ≡ Some q) ⊎ (named_csr w ≡ Some q)
 
 rd_target : (n : ℕ) (q : Register) → is_x n q ≡ true → Some (register.X n) ≡ Some q
 rd_target n q e = ap (λ (r : Register). Some r) (sym (x_is n q e))
@@ -97,21 +97,21 @@ fresh_nothing w (Some r) = at (sets w.insn w.stored r)
 -- where nothing is marked, an instruction at which the walk doesn't start marks nothing
 pub mark_nothing : (w : Retired) (starts : Bool) (marks : List Register) → marks ≡ [] → starts ≡ false
     → mark w starts marks ≡ []
-mark_nothing w starts marks e f = rw (e, f, fresh_nothing w (rd_of w.insn), fresh_nothing w (csr_of w.insn)) refl
+mark_nothing w starts marks e f = rw (e, f, fresh_nothing w (named_rd w.insn), fresh_nothing w (named_csr w.insn)) refl
 
 pub mark_in : (w : Retired) (starts : Bool) (marks : List Register) (q : Register) → Contains (mark w starts marks) q
     → MarkedBy w starts marks q
 mark_in w starts marks q h =
     elim (Contains-append_cases
-    (filter (λ r. not (sets w.insn w.stored r)) marks ++ list_of (fresh w starts marks (rd_of w.insn)))
-    (list_of (fresh w starts marks (csr_of w.insn))) q h) [
+    (filter (λ r. not (sets w.insn w.stored r)) marks ++ list_of (fresh w starts marks (named_rd w.insn)))
+    (list_of (fresh w starts marks (named_csr w.insn))) q h) [
       | inl a ↦ elim (Contains-append_cases (filter (λ r. not (sets w.insn w.stored r)) marks)
-          (list_of (fresh w starts marks (rd_of w.insn))) q a) [
+          (list_of (fresh w starts marks (named_rd w.insn))) q a) [
             | inl b ↦ let f = from_filter (λ r. not (sets w.insn w.stored r)) marks q b in
                 inl (f.0, not_false (sets w.insn w.stored q) f.1)
-            | inr b ↦ inr (fresh_in w starts marks (rd_of w.insn) q b)
+            | inr b ↦ inr (fresh_in w starts marks (named_rd w.insn) q b)
           ]
-      | inr a ↦ inr (fresh_in w starts marks (csr_of w.insn) q a)
+      | inr a ↦ inr (fresh_in w starts marks (named_csr w.insn) q a)
     ]
 
 pub in_mark : (w : Retired) (starts : Bool) (marks : List Register) (q : Register) → MarkedBy w starts marks q
@@ -122,10 +122,10 @@ in_mark w starts marks q m = at m
     kept = filter (λ r. not (sets w.insn w.stored r)) marks
 
     rd : List Register
-    rd = list_of (fresh w starts marks (rd_of w.insn))
+    rd = list_of (fresh w starts marks (named_rd w.insn))
 
     csr : List Register
-    csr = list_of (fresh w starts marks (csr_of w.insn))
+    csr = list_of (fresh w starts marks (named_csr w.insn))
 
     at : MarkedBy w starts marks q → Contains ((kept ++ rd) ++ csr) q
     at (inl h) =

@@ -5,7 +5,7 @@ use Rattle.std.proofs.lemmas.Bool.Decides.{nat_tests}
 use Rattle.tandem_base.specs.declared.names.OpName.{OpName}
 use Rattle.tandem_base.specs.declared.names.Place.{Place}
 use Rattle.tandem_base.specs.Places.{earlier}
-use Rattle.rvwmo_model.specs.Order.{Standing, performed, waiting, stands_before, named_before}
+use Rattle.rvwmo_model.specs.Order.{Standing, performed, unperformed, stands_before, named_before}
 
 -- ---- places
 
@@ -27,27 +27,27 @@ place_total p q a b =
 pub before_self : (a : Standing) → stands_before a a ≡ false
 unfolding stands_before
 before_self (performed p) = place_self p
-before_self (waiting h k) = grind (arith, nat_tests)
+before_self (unperformed h k) = grind (arith, nat_tests)
 
 pub before_trans : (a b c : Standing) → stands_before a b ≡ true → stands_before b c ≡ true → stands_before a c ≡ true
 unfolding stands_before
 before_trans (performed p) (performed q) (performed r) d e = place_trans p q r d e
-before_trans (performed p) (performed q) (waiting h k) d e = refl
-before_trans (performed p) (waiting h k) (performed r) d e = absurd (false≢true e)
-before_trans (performed p) (waiting h k) (waiting g j) d e = refl
-before_trans (waiting h k) (performed q) c d e = absurd (false≢true d)
-before_trans (waiting h k) (waiting g j) (performed r) d e = absurd (false≢true e)
-before_trans (waiting h k) (waiting g j) (waiting f i) d e = grind (arith, nat_tests)
+before_trans (performed p) (performed q) (unperformed h k) d e = refl
+before_trans (performed p) (unperformed h k) (performed r) d e = absurd (false≢true e)
+before_trans (performed p) (unperformed h k) (unperformed g j) d e = refl
+before_trans (unperformed h k) (performed q) c d e = absurd (false≢true d)
+before_trans (unperformed h k) (unperformed g j) (performed r) d e = absurd (false≢true e)
+before_trans (unperformed h k) (unperformed g j) (unperformed f i) d e = grind (arith, nat_tests)
 
 pub before_total : (a b : Standing) → stands_before a b ≡ false → stands_before b a ≡ false → a ≡ b
 unfolding stands_before
 before_total (performed p) (performed q) d e = ap performed (place_total p q d e)
-before_total (performed p) (waiting h k) d e = absurd (false≢true (sym d))
-before_total (waiting h k) (performed q) d e = absurd (false≢true (sym e))
-before_total (waiting h k) (waiting g j) d e =
+before_total (performed p) (unperformed h k) d e = absurd (false≢true (sym d))
+before_total (unperformed h k) (performed q) d e = absurd (false≢true (sym e))
+before_total (unperformed h k) (unperformed g j) d e =
     let a : h ≡ g = grind (arith, nat_tests) in
     let b : k ≡ j = grind (arith, nat_tests) in
-    λ i. waiting (a i) (b i)
+    λ i. unperformed (a i) (b i)
 
 pub before_asym : (a b : Standing) → stands_before a b ≡ true → stands_before b a ≡ false
 before_asym a b p = at (stands_before b a) refl

@@ -20,8 +20,8 @@ use Rattle.rvwmo_model.specs.Rules.{R1, R2, R3, R4, R5, R6, R7, R8, R9, R10, R11
 use Rattle.rvwmo_model.specs.Atomicity.{IsPair, Unpaired, IsAfter, IsLate, Intrudes, IsTornAt, WritesBlock}
 use Rattle.rvwmo_model.specs.Atomicity.{IntrudesBlock, Torn}
 use Rattle.rvwmo_model.specs.Legal.{WrongValue}
-use Rattle.rvwmo_model.specs.Report.{IsLeast, IsLowest, IsLatest, IsSecond, IsReported, HasWrong, IsTorn}
-use Rattle.rvwmo_model.specs.Report.{IsForeign, Blamed, late, foreign, Shown, byte, block, AllPaired, AllRight}
+use Rattle.rvwmo_model.specs.Report.{IsLeast, IsLowest, IsLatest, IsSecond, IsReportedPair, HasWrong, IsTorn}
+use Rattle.rvwmo_model.specs.Report.{IsForeign, Blamed, late, foreign, TornBy, byte, block, AllPaired, AllRight}
 use Rattle.rvwmo_model.specs.Report.{AllOrdered, IsAnswer}
 use Rattle.rvwmo_model.specs.InForm.{InForm}
 use Rattle.rvwmo_model.specs.Laws.{IsReordered, AnswerOfMembers}
@@ -29,13 +29,13 @@ use Rattle.rvwmo_model.proofs.Latest.{source_is, source_is_none}
 use Rattle.rvwmo_model.proofs.Totality.{stand_alike}
 
 -- what the answer reads of a trace, the same in both
-record Alike (t t' : Trace) : Type 0 where
-  insns : t'.insns ≡ t.insns
-  ops_on : (o : Op) → Contains t.ops o → Contains t'.ops o
-  ops_back : (o : Op) → Contains t'.ops o → Contains t.ops o
-  all_on : (o : Op) → Contains (everything t) o → Contains (everything t') o
-  granule : t'.granule ≡ t.granule
-  sources : (i : Op) (x : ℕ) → source t' i x ≡ source t i x
+pub record Alike (t t' : Trace) : Type 0 where
+  pub insns : t'.insns ≡ t.insns
+  pub ops_on : (o : Op) → Contains t.ops o → Contains t'.ops o
+  pub ops_back : (o : Op) → Contains t'.ops o → Contains t.ops o
+  pub all_on : (o : Op) → Contains (everything t) o → Contains (everything t') o
+  pub granule : t'.granule ≡ t.granule
+  pub sources : (i : Op) (x : ℕ) → source t' i x ≡ source t i x
 
 writer_on : (t t' : Trace) (i : Op) (x : ℕ) (w : Op) → ((o : Op) → Contains t.ops o → Contains t'.ops o)
     → ((o : Op) → Contains t.early o → Contains t'.early o) → IsWriter t i x w → IsWriter t' i x w
@@ -68,7 +68,7 @@ same_source t t' form r i x = at (source t i x) refl (source t' i x) refl
         stand_alike t u s form (writer_in t i x u w) (writer_in t i x s a.0) (b.1 s (on s a.0)) (a.1 u w) in
         f ∙ ap (λ (o : Op). Some o) same ∙ sym e
 
-alike : (t t' : Trace) → InForm t → IsReordered t t' → Alike t t'
+pub alike : (t t' : Trace) → InForm t → IsReordered t t' → Alike t t'
 alike t t' form r = record {
   insns = r.insns;
   ops_on = λ o. (r.ops o).0;
@@ -81,7 +81,7 @@ alike t t' form r = record {
   sources = same_source t t' form r;
 }
 
-flip : (t t' : Trace) → IsReordered t t' → IsReordered t' t
+pub flip : (t t' : Trace) → IsReordered t t' → IsReordered t' t
 flip t t' r = record {
   insns = sym r.insns;
   ops = λ o. ((r.ops o).1, (r.ops o).0);
@@ -179,7 +179,7 @@ module _ (t t' : Trace) (a : Alike t t') (z : Alike t' t) where
 
   -- ---- values and pairs
 
-  wrong_on : (initial : ℕ → ℕ) (i : Op) (x : ℕ) → WrongValue initial t i x → WrongValue initial t' i x
+  pub wrong_on : (initial : ℕ → ℕ) (i : Op) (x : ℕ) → WrongValue initial t i x → WrongValue initial t' i x
   wrong_on initial i x v = record {
     load_in = a.ops_on i v.load_in;
     loads = v.loads;
@@ -227,7 +227,7 @@ module _ (t t' : Trace) (a : Alike t t') (z : Alike t' t) where
     before = i.before;
   }
 
-  torn_on : (r w : Op) → Torn t r w → Torn t' r w
+  pub torn_on : (r w : Op) → Torn t r w → Torn t' r w
   torn_on r w p = record {
     pair = pair_on r w p.pair;
     torn = elim p.torn [
@@ -242,10 +242,11 @@ module _ (t t' : Trace) (a : Alike t t') (z : Alike t' t) where
 
 -- ---- choices
 
-least_on : (P Q : Op → Type 0) (o : Op) → ((v : Op) → P v → Q v) → ((v : Op) → Q v → P v) → IsLeast P o → IsLeast Q o
+pub least_on : (P Q : Op → Type 0) (o : Op) → ((v : Op) → P v → Q v) → ((v : Op) → Q v → P v) → IsLeast P o
+    → IsLeast Q o
 least_on P Q o f g l = record { offends = f o l.offends; least = λ v q. l.least v (g v q) }
 
-lowest_on : (P Q : ℕ → Type 0) (x : ℕ) → ((y : ℕ) → P y → Q y) → ((y : ℕ) → Q y → P y) → IsLowest P x
+pub lowest_on : (P Q : ℕ → Type 0) (x : ℕ) → ((y : ℕ) → P y → Q y) → ((y : ℕ) → Q y → P y) → IsLowest P x
     → IsLowest Q x
 lowest_on P Q x f g l = record { here = f x l.here; lowest = λ y q. l.lowest y (g y q) }
 
@@ -271,7 +272,7 @@ module _ (t t' : Trace) (a : Alike t t') (z : Alike t' t) where
   all_right_on : (initial : ℕ → ℕ) → AllRight initial t → AllRight initial t'
   all_right_on initial h i x v = h i x (wrong_on t' t z a initial i x v)
 
-  all_ordered_on : AllOrdered t → AllOrdered t'
+  pub all_ordered_on : AllOrdered t → AllOrdered t'
   all_ordered_on h k b c p = h k b c (broken_on t' t z a k b c p)
 
   blamed_on : (r w : Op) (x : ℕ) (s : Op) → Blamed t r w x s → Blamed t' r w x s
@@ -279,7 +280,7 @@ module _ (t t' : Trace) (a : Alike t t') (z : Alike t' t) where
   blamed_on r w x _ (foreign s n l) = foreign s (λ m. n (late_on t' t z a r w x m))
       (latest_on (IsForeign t w x) (IsForeign t' w x) s (foreign_on t t' a z w x) (foreign_on t' t z a w x) l)
 
-  shown_on : (r w : Op) (x : ℕ) (s : Op) → Shown t r w x s → Shown t' r w x s
+  pub shown_on : (r w : Op) (x : ℕ) (s : Op) → TornBy t r w x s → TornBy t' r w x s
   shown_on r w _ _ (byte x s l b) = byte x s
       (lowest_on (IsTornAt t r w) (IsTornAt t' r w) x (torn_at_on t t' a z r w) (torn_at_on t' t z a r w) l)
       (blamed_on r w x s b)
@@ -289,7 +290,7 @@ module _ (t t' : Trace) (a : Alike t t') (z : Alike t' t) where
       (lowest_on (WritesBlock t r s) (WritesBlock t' r s) x (writes_block_on t t' a z r s)
       (writes_block_on t' t z a r s) m)
 
-  reported_on : (k : Rule) (b c : Op) → IsReported t k b c → IsReported t' k b c
+  pub reported_on : (k : Rule) (b c : Op) → IsReportedPair t k b c → IsReportedPair t' k b c
   reported_on k b c p = record {
     rule = λ j l d e q. p.rule j l d e (broken_on t' t z a j d e q);
     second = least_on (IsSecond k t) (IsSecond k t') c (λ v q. (q.0, broken_on t t' a z k q.0 v q.1))
@@ -306,7 +307,11 @@ module _ (t t' : Trace) (a : Alike t t') (z : Alike t' t) where
     atomic = λ r w p. h.atomic r w (torn_on t' t z a r w p);
   }
   answer_on initial (judged.Pair name) h =
-      (h.0, h.1, least_on (Unpaired t) (Unpaired t') h.0 unpaired_on (λ w u. unpaired_back w u) h.2)
+      record {
+        sc = h.sc;
+        named = h.named;
+        least = least_on (Unpaired t) (Unpaired t') h.sc unpaired_on (λ w u. unpaired_back w u) h.least;
+      }
     where
       unpaired_back : (w : Op) → Unpaired t' w → Unpaired t w
       unpaired_back w u = record {
@@ -314,48 +319,45 @@ module _ (t t' : Trace) (a : Alike t t') (z : Alike t' t) where
         stored = stored_on t' t z a w u.stored;
         alone = λ r p. u.alone r (pair_on t t' a z r w p);
       }
-  answer_on initial (judged.Value name x want got) h = (
-    all_paired_on h.0,
-    (
-      h.1.0,
-      h.1.1,
-      least_on (HasWrong initial t) (HasWrong initial t') h.1.0 (λ v q. (q.0, wrong_on t t' a z initial v q.0 q.1))
-          (λ v q. (q.0, wrong_on t' t z a initial v q.0 q.1)) h.1.2,
-      lowest_on (WrongValue initial t h.1.0) (WrongValue initial t' h.1.0) x (wrong_on t t' a z initial h.1.0)
-          (wrong_on t' t z a initial h.1.0) h.1.3,
-      h.1.4 ∙ ap (λ (o : Option Op). byte_from initial o x) (sym (a.sources h.1.0 x)),
-      h.1.5,
-    ),
-  )
-  answer_on initial (judged.Order rule first second) h = (
-    all_paired_on h.0,
-    all_right_on initial h.1,
-    (
-      h.2.0,
-      h.2.1,
-      h.2.2,
-      h.2.3,
-      h.2.4,
-      h.2.5,
-      reported_on h.2.0 h.2.1 h.2.2 h.2.6,
-    ),
-  )
-  answer_on initial (judged.Atomicity name x store) h = (
-    all_paired_on h.0,
-    all_right_on initial h.1,
-    all_ordered_on h.2,
-    (
-      h.3.0,
-      h.3.1,
-      h.3.2,
-      h.3.3,
-      least_on (IsTorn t) (IsTorn t') h.3.0 (λ v q. (q.0, torn_on t t' a z q.0 v q.1))
-          (λ v q. (q.0, torn_on t' t z a q.0 v q.1)) h.3.4,
-      torn_on t t' a z h.3.1 h.3.0 h.3.5,
-      shown_on h.3.1 h.3.0 x h.3.2 h.3.6,
-      h.3.7,
-    ),
-  )
+  answer_on initial (judged.Value name x want got) h = record {
+    paired = all_paired_on h.paired;
+    load = h.load;
+    named = h.named;
+    least =
+        least_on (HasWrong initial t) (HasWrong initial t') h.load (λ v q. (q.0, wrong_on t t' a z initial v q.0 q.1))
+        (λ v q. (q.0, wrong_on t' t z a initial v q.0 q.1)) h.least;
+    lowest =
+        lowest_on (WrongValue initial t h.load) (WrongValue initial t' h.load) x (wrong_on t t' a z initial h.load)
+        (wrong_on t' t z a initial h.load) h.lowest;
+    wanted = h.wanted ∙ ap (λ (o : Option Op). byte_from initial o x) (sym (a.sources h.load x));
+    loaded = h.loaded;
+  }
+  answer_on initial (judged.Order rule first second) h = record {
+    paired = all_paired_on h.paired;
+    right = all_right_on initial h.right;
+    broken = h.broken;
+    before = h.before;
+    after = h.after;
+    numbered = h.numbered;
+    first_named = h.first_named;
+    second_named = h.second_named;
+    reported = reported_on h.broken h.before h.after h.reported;
+  }
+  answer_on initial (judged.Atomicity name x store) h = record {
+    paired = all_paired_on h.paired;
+    right = all_right_on initial h.right;
+    ordered = all_ordered_on h.ordered;
+    sc = h.sc;
+    lr = h.lr;
+    blamed = h.blamed;
+    named = h.named;
+    least =
+        least_on (IsTorn t) (IsTorn t') h.sc (λ v q. (q.0, torn_on t t' a z q.0 v q.1))
+        (λ v q. (q.0, torn_on t' t z a q.0 v q.1)) h.least;
+    torn = torn_on t t' a z h.lr h.sc h.torn;
+    shown = shown_on h.lr h.sc x h.blamed h.shown;
+    keyed = h.keyed;
+  }
 
 pub answer_of_members : AnswerOfMembers
 answer_of_members initial t t' j f f' r =

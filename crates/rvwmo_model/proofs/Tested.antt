@@ -13,7 +13,7 @@ use Rattle.rvwmo_model.specs.declared.judge.walk.Use.{Use}
 use Rattle.rvwmo_model.specs.declared.judge.walk.Use.TheVariants.{Address, Data, Control}
 use Rattle.rvwmo_model.specs.declared.operations.Op.{Op}
 use Rattle.rvwmo_model.specs.declared.traces.Trace.{Trace}
-use Rattle.rvwmo_model.specs.Order.{everything, standing, loads, stores, has_byte, reads, writes, precedes}
+use Rattle.rvwmo_model.specs.Order.{everything, standing, op_loads, op_stores, has_byte, reads, writes, precedes}
 use Rattle.rvwmo_model.specs.ProgramOrder.{insn_at, insn_of, is_one}
 use Rattle.rvwmo_model.specs.Sources.{source, origin}
 use Rattle.rvwmo_model.specs.Flows.{DependsBy}
@@ -119,7 +119,7 @@ between_by test t a b rising = (
 -- ---- the rules
 
 covers_of_reads : (x : ℕ) (o : Op) → reads x o ≡ true → has_byte x o ≡ true
-covers_of_reads x o e = (and_parts (loads o) (has_byte x o) e).1
+covers_of_reads x o e = (and_parts (op_loads o) (has_byte x o) e).1
 
 overlap_is : (a b : Op) → Decides (overlap a b) (Overlap a b)
 overlap_is a b =
@@ -323,9 +323,9 @@ holds_is R7 t a b form lt = itself_is _
 holds_is R8 t a b form lt = paired_is t a b form.rising
 holds_is R9 t a b form lt = depends_at_is Address t a b.name.tag form.rising
 holds_is R10 t a b form lt = depends_at_is Data t a b.name.tag form.rising
-holds_is R11 t a b form lt = both_is _ _ _ _ (itself_is (stores b)) (depends_between_is Control t a b form.rising lt)
+holds_is R11 t a b form lt = both_is _ _ _ _ (itself_is (op_stores b)) (depends_between_is Control t a b form.rising lt)
 holds_is R12 t a b form lt = reads_dependent_is t a b form
-holds_is R13 t a b form lt = both_is _ _ _ _ (itself_is (stores b)) (depends_between_is Address t a b form.rising lt)
+holds_is R13 t a b form lt = both_is _ _ _ _ (itself_is (op_stores b)) (depends_between_is Address t a b form.rising lt)
 
 -- and so a broken pair of members is found
 pub broken_is : (k : Rule) (t : Trace) (a b : Op) → InForm t → Contains t.ops a → Contains t.ops b

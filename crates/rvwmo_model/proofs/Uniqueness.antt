@@ -17,7 +17,7 @@ use Rattle.rvwmo_model.specs.Atomicity.{IsPair, Unpaired, IsLate, WritesBlock, I
 use Rattle.rvwmo_model.specs.Legal.{WrongValue}
 use Rattle.rvwmo_model.specs.InForm.{InForm}
 use Rattle.rvwmo_model.specs.Report.{number, IsLeast, IsLowest, IsLatest, HasWrong, IsTorn, IsForeign, Blamed, late}
-use Rattle.rvwmo_model.specs.Report.{foreign, Shown, byte, block}
+use Rattle.rvwmo_model.specs.Report.{foreign, TornBy, byte, block}
 use Rattle.rvwmo_model.specs.Laws.{AnswerIsOne}
 use Rattle.rvwmo_model.proofs.Answered.{legal_is}
 use Rattle.rvwmo_model.proofs.Orders.{name_total}
@@ -27,12 +27,12 @@ use Rattle.rvwmo_model.proofs.Totality.{one_name, stand_alike}
 use Rattle.rvwmo_model.proofs.LookUp.{found_in}
 use Rattle.rv_decode.specs.Kinds.{is_lr, is_sc}
 
-least_one : (t : Trace) (P : Op → Type 0) (a b : Op) → InForm t → ((o : Op) → P o → Contains t.ops o) → IsLeast P a
+pub least_one : (t : Trace) (P : Op → Type 0) (a b : Op) → InForm t → ((o : Op) → P o → Contains t.ops o) → IsLeast P a
     → IsLeast P b → a ≡ b
 least_one t P a b f only l m = one_name t a b f (only a l.offends) (only b m.offends)
     (name_total a.name b.name (m.least a l.offends) (l.least b m.offends))
 
-lowest_one : (P : ℕ → Type 0) (x y : ℕ) → IsLowest P x → IsLowest P y → x ≡ y
+pub lowest_one : (P : ℕ → Type 0) (x y : ℕ) → IsLowest P x → IsLowest P y → x ≡ y
 lowest_one P x y l m = let a = l.lowest y m.here in let b = m.lowest x l.here in omega arith
 
 latest_one : (t : Trace) (P : Op → Type 0) (a b : Op) → InForm t → ((o : Op) → P o → Contains (everything t) o)
@@ -63,7 +63,7 @@ not_first t r s w p q l =
     subst (λ (h : ℕ). is_one is_lr (insn_at t.insns h s.name.tag) ≡ true) same q.paired.0 in
     p.paired.2 (s.name.tag, l, q.in_order, lr_parts (insn_at t.insns r.name.hart s.name.tag) lr)
 
-lr_one : (t : Trace) (r s w : Op) → InForm t → IsPair t r w → IsPair t s w → r ≡ s
+pub lr_one : (t : Trace) (r s w : Op) → InForm t → IsPair t r w → IsPair t s w → r ≡ s
 lr_one t r s w f p q = elim (cases_order r.name.tag s.name.tag) [
   | inl e ↦ op_one t r s f p.lr_in q.lr_in (sym q.one_hart ∙ p.one_hart) (sym e) p.paired.0
   | inr o ↦ absurd (elim o [ inl l ↦ not_first t r s w p q l | inr l ↦ not_first t s r w q p l ])
@@ -77,8 +77,8 @@ blamed_one t r w x _ _ f (late s e l) (foreign u n m) = absurd (n (subst (λ (o 
 blamed_one t r w x _ _ f (foreign s n m) (late u e l) = absurd (n (subst (λ (o : Option Op). IsLate o w) (sym e) l))
 blamed_one t r w x _ _ f (foreign s n l) (foreign u k m) = latest_one t (IsForeign t w x) s u f (λ o h. h.store_in) l m
 
-shown_one : (t : Trace) (r w : Op) (x : ℕ) (s : Op) (y : ℕ) (u : Op) → InForm t → Shown t r w x s → Shown t r w y u
-    → (x ≡ y) × (s ≡ u)
+pub shown_one : (t : Trace) (r w : Op) (x : ℕ) (s : Op) (y : ℕ) (u : Op) → InForm t → TornBy t r w x s
+    → TornBy t r w y u → (x ≡ y) × (s ≡ u)
 shown_one t r w _ _ _ _ f (byte x s l b) (byte y u m c) =
     let e = lowest_one _ x y l m in
     (e, blamed_one t r w y s u f (subst (λ (z : ℕ). Blamed t r w z s) e b) c)
@@ -123,43 +123,49 @@ pub answer_one : AnswerIsOne
 answer_one initial t f judged.Legal q h k = sym ((legal_is initial t q k).1 h)
 answer_one initial t f p judged.Legal h k = (legal_is initial t p h).1 k
 answer_one initial t f (judged.Pair m) (judged.Pair n) h k =
-    pair_same m n h.0 k.0 h.1 k.1 (least_one t (Unpaired t) h.0 k.0 f (λ o u. u.sc_in) h.2 k.2)
-answer_one initial t f (judged.Pair m) (judged.Value n x want got) h k = absurd (k.0 h.0 h.2.offends)
-answer_one initial t f (judged.Pair m) (judged.Order rule first second) h k = absurd (k.0 h.0 h.2.offends)
-answer_one initial t f (judged.Pair m) (judged.Atomicity n x store) h k = absurd (k.0 h.0 h.2.offends)
-answer_one initial t f (judged.Value m x want got) (judged.Pair n) h k = absurd (h.0 k.0 k.2.offends)
+    pair_same m n h.sc k.sc h.named k.named (least_one t (Unpaired t) h.sc k.sc f (λ o u. u.sc_in) h.least k.least)
+answer_one initial t f (judged.Pair m) (judged.Value n x want got) h k = absurd (k.paired h.sc h.least.offends)
+answer_one initial t f (judged.Pair m) (judged.Order rule first second) h k = absurd (k.paired h.sc h.least.offends)
+answer_one initial t f (judged.Pair m) (judged.Atomicity n x store) h k = absurd (k.paired h.sc h.least.offends)
+answer_one initial t f (judged.Value m x want got) (judged.Pair n) h k = absurd (h.paired k.sc k.least.offends)
 answer_one initial t f (judged.Value m x want got) (judged.Value n y want' got') h k =
-    let same : h.1.0 ≡ k.1.0 = least_one t (HasWrong initial t) h.1.0 k.1.0 f (λ o u. u.1.load_in) h.1.2 k.1.2 in
+    let same : h.load ≡ k.load =
+    least_one t (HasWrong initial t) h.load k.load f (λ o u. u.1.load_in) h.least k.least in
     let at : x ≡ y =
-    lowest_one (WrongValue initial t k.1.0) x y
-    (subst (λ (i : Op). IsLowest (WrongValue initial t i) x) same h.1.3) k.1.3 in
-    sym (value_made m x want got h.1.0.name (byte_from initial (source t h.1.0 x) x) (got_at h.1.0 x) h.1.1 h.1.4 h.1.5)
-    ∙ value_same initial t h.1.0 k.1.0 x y same at
-    ∙ value_made n y want' got' k.1.0.name (byte_from initial (source t k.1.0 y) y) (got_at k.1.0 y) k.1.1 k.1.4 k.1.5
+    lowest_one (WrongValue initial t k.load) x y
+    (subst (λ (i : Op). IsLowest (WrongValue initial t i) x) same h.lowest) k.lowest in
+    sym (value_made m x want got h.load.name (byte_from initial (source t h.load x) x) (got_at h.load x) h.named
+    h.wanted h.loaded)
+    ∙ value_same initial t h.load k.load x y same at
+    ∙ value_made n y want' got' k.load.name (byte_from initial (source t k.load y) y) (got_at k.load y) k.named
+    k.wanted k.loaded
 answer_one initial t f (judged.Value m x want got) (judged.Order rule first second) h k =
-    absurd (k.1 h.1.0 x h.1.3.here)
-answer_one initial t f (judged.Value m x want got) (judged.Atomicity n y store) h k = absurd (k.1 h.1.0 x h.1.3.here)
-answer_one initial t f (judged.Order rule first second) (judged.Pair n) h k = absurd (h.0 k.0 k.2.offends)
+    absurd (k.right h.load x h.lowest.here)
+answer_one initial t f (judged.Value m x want got) (judged.Atomicity n y store) h k =
+    absurd (k.right h.load x h.lowest.here)
+answer_one initial t f (judged.Order rule first second) (judged.Pair n) h k = absurd (h.paired k.sc k.least.offends)
 answer_one initial t f (judged.Order rule first second) (judged.Value n y want got) h k =
-    absurd (h.1 k.1.0 y k.1.3.here)
+    absurd (h.right k.load y k.lowest.here)
 answer_one initial t f (judged.Order rule first second) (judged.Order rule' first' second') h k =
-    let one = report_one t f h.2.0 k.2.0 h.2.1 h.2.2 k.2.1 k.2.2 h.2.6 k.2.6 in
-    sym (order_made rule first second (number h.2.0) h.2.1.name h.2.2.name h.2.3 h.2.4 h.2.5)
-    ∙ order_same h.2.0 k.2.0 h.2.1 h.2.2 k.2.1 k.2.2 one.0 one.1 one.2
-    ∙ order_made rule' first' second' (number k.2.0) k.2.1.name k.2.2.name k.2.3 k.2.4 k.2.5
+    let one = report_one t f h.broken k.broken h.before h.after k.before k.after h.reported k.reported in
+    sym (order_made rule first second (number h.broken) h.before.name h.after.name h.numbered h.first_named
+    h.second_named)
+    ∙ order_same h.broken k.broken h.before h.after k.before k.after one.0 one.1 one.2
+    ∙ order_made rule' first' second' (number k.broken) k.before.name k.after.name k.numbered k.first_named
+    k.second_named
 answer_one initial t f (judged.Order rule first second) (judged.Atomicity n y store) h k =
-    absurd (k.2 h.2.0 h.2.1 h.2.2 h.2.6.first.here)
-answer_one initial t f (judged.Atomicity m x store) (judged.Pair n) h k = absurd (h.0 k.0 k.2.offends)
-answer_one initial t f (judged.Atomicity m x store) (judged.Value n y want got) h k = absurd (h.1 k.1.0 y k.1.3.here)
+    absurd (k.ordered h.broken h.before h.after h.reported.first.here)
+answer_one initial t f (judged.Atomicity m x store) (judged.Pair n) h k = absurd (h.paired k.sc k.least.offends)
+answer_one initial t f (judged.Atomicity m x store) (judged.Value n y want got) h k =
+    absurd (h.right k.load y k.lowest.here)
 answer_one initial t f (judged.Atomicity m x store) (judged.Order rule first second) h k =
-    absurd (h.2 k.2.0 k.2.1 k.2.2 k.2.6.first.here)
+    absurd (h.ordered k.broken k.before k.after k.reported.first.here)
 answer_one initial t f (judged.Atomicity m x store) (judged.Atomicity n y store') h k =
-    let sc : h.3.0 ≡ k.3.0 = least_one t (IsTorn t) h.3.0 k.3.0 f (λ o u. u.1.pair.sc_in) h.3.4 k.3.4 in
-    let lr : h.3.1 ≡ k.3.1 = lr_one t h.3.1 k.3.1 k.3.0 f (subst (λ (z : Op). IsPair t h.3.1 z) sc h.3.5.pair)
-    k.3.5.pair in
-    let shown : Shown t k.3.1 k.3.0 x h.3.2 =
-    subst (λ (z : Op). Shown t k.3.1 z x h.3.2) sc (subst (λ (z : Op). Shown t z h.3.0 x h.3.2) lr h.3.6) in
-    let one = shown_one t k.3.1 k.3.0 x h.3.2 y k.3.2 f shown k.3.6 in
-    sym (torn_made m x store h.3.0.name (key_of h.3.2) h.3.3 h.3.7)
-    ∙ torn_same h.3.0 k.3.0 x y h.3.2 k.3.2 sc one.0 one.1
-    ∙ torn_made n y store' k.3.0.name (key_of k.3.2) k.3.3 k.3.7
+    let sc : h.sc ≡ k.sc = least_one t (IsTorn t) h.sc k.sc f (λ o u. u.1.pair.sc_in) h.least k.least in
+    let lr : h.lr ≡ k.lr = lr_one t h.lr k.lr k.sc f (subst (λ (z : Op). IsPair t h.lr z) sc h.torn.pair) k.torn.pair in
+    let shown : TornBy t k.lr k.sc x h.blamed =
+    subst (λ (z : Op). TornBy t k.lr z x h.blamed) sc (subst (λ (z : Op). TornBy t z h.sc x h.blamed) lr h.shown) in
+    let one = shown_one t k.lr k.sc x h.blamed y k.blamed f shown k.shown in
+    sym (torn_made m x store h.sc.name (key_of h.blamed) h.named h.keyed)
+    ∙ torn_same h.sc k.sc x y h.blamed k.blamed sc one.0 one.1
+    ∙ torn_made n y store' k.sc.name (key_of k.blamed) k.named k.keyed

@@ -12,7 +12,7 @@ use Rattle.rvwmo_model.specs.Sources.{latest_from, source, byte_from, key_of}
 use Rattle.rvwmo_model.specs.Rules.{Rule, R1, R2, R3, R4, R5, R6, R7, R8, R9, R10, R11, R12, R13}
 use Rattle.rvwmo_model.specs.Report.{number}
 use Rattle.rvwmo_model.specs.Search.{best_from}
-use Rattle.rvwmo_model.specs.Tests.{is_broken, wrong_byte, is_unpaired, torn_byte, is_torn, block_byte}
+use Rattle.rvwmo_model.specs.Tests.{is_broken, wrong_byte, is_unpaired, torn_byte, is_pair_torn, block_byte}
 use Rattle.rvwmo_model.specs.Tests.{intrudes_block, is_foreign, is_late, latest_everywhere}
 
 -- the name of a comes before that of b
@@ -53,16 +53,16 @@ value_answer initial t = value_of initial t (least_of (λ i. is_some (wrong_byte
 -- ---- order
 
 -- the latest operation that rule k puts before b, and that comes after it
-abbrev pub first_of : Rule → Trace → Op → Option Op
-first_of k t b = latest_from None (filter (λ a. is_broken k t a b) t.ops)
+abbrev pub broken_first : Rule → Trace → Op → Option Op
+broken_first k t b = latest_from None (filter (λ a. is_broken k t a b) t.ops)
 
 -- rule k puts an operation before b that comes after it
 unfoldable pub has_first : Rule → Trace → Op → Bool
 has_first k t b = list_any (λ a. is_broken k t a b) t.ops
 
 -- the second operation of a broken pair of rule k that has the least name
-abbrev pub second_of : Rule → Trace → Option Op
-second_of k t = least_of (has_first k t) t.ops
+abbrev pub broken_second : Rule → Trace → Option Op
+broken_second k t = least_of (has_first k t) t.ops
 
 -- the offence of a and b by rule k
 abbrev pub order_pair : Rule → Op → Option Op → Option Judged
@@ -72,12 +72,12 @@ order_pair k b (Some a) = Some (judged.Order (number k) a.name b.name)
 -- the offence by rule k whose second operation is b
 abbrev pub order_of : Rule → Trace → Option Op → Option Judged
 order_of k t None = None
-order_of k t (Some b) = order_pair k b (first_of k t b)
+order_of k t (Some b) = order_pair k b (broken_first k t b)
 
 -- the offence by the first rule of a list that is broken
 abbrev pub order_from : Trace → List Rule → Option Judged
 order_from t [] = None
-order_from t (k ∷ ks) = order_of k t (second_of k t) or_else order_from t ks
+order_from t (k ∷ ks) = order_of k t (broken_second k t) or_else order_from t ks
 
 -- the rules in their order
 abbrev pub all_rules : List Rule
@@ -121,11 +121,11 @@ pair_torn t w (Some r) = torn_of t r w (torn_byte t r w)
 -- the offence of the SC w
 abbrev pub atomicity_of : Trace → Option Op → Option Judged
 atomicity_of t None = None
-atomicity_of t (Some w) = pair_torn t w (least_of (λ r. is_torn t r w) t.ops)
+atomicity_of t (Some w) = pair_torn t w (least_of (λ r. is_pair_torn t r w) t.ops)
 
 -- the SC w is in a pair that isn't atomic
 unfoldable pub has_torn : Trace → Op → Bool
-has_torn t w = list_any (λ r. is_torn t r w) t.ops
+has_torn t w = list_any (λ r. is_pair_torn t r w) t.ops
 
 -- the offence of atomicity
 abbrev pub atomicity_answer : Trace → Option Judged

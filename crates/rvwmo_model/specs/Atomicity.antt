@@ -20,14 +20,14 @@ pub record IsPair (t : Trace) (r w : Op) : Type 0 where
   pub stored : has_stored (insn_of t w) ≡ true
 
 -- each byte of w is one of r
-abbrev pub IsWithin : Op → Op → Type 0
-IsWithin w r = (x : ℕ) → has_byte x w ≡ true → has_byte x r ≡ true
+abbrev pub IsCoveredBy : Op → Op → Type 0
+IsCoveredBy w r = (x : ℕ) → has_byte x w ≡ true → has_byte x r ≡ true
 
 -- w is of a successful SC that has no pair whose bytes contain its own
 pub record Unpaired (t : Trace) (w : Op) : Type 0 where
   pub sc_in : Contains t.ops w
   pub stored : has_stored (insn_of t w) ≡ true
-  pub alone : (r : Op) → IsPair t r w → IsWithin w r → ⊥
+  pub alone : (r : Op) → IsPair t r w → IsCoveredBy w r → ⊥
 
 -- v comes after a source; the initial value comes before everything
 abbrev pub IsAfter : Option Op → Op → Type 0

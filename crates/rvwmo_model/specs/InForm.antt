@@ -1,8 +1,9 @@
 -- Which traces are in form.
-use Rattle.std.specs.Prelude.{ℕ, ◌^◌, ◌<◌, ◌≡◌, ◌≢◌, ◌⊎◌, ◌||◌, List, true, None, Some, length}
+use Rattle.std.specs.Prelude.{◌^◌, ◌<◌, ◌≡◌, ◌≢◌, ◌||◌, List, true, None, Some, length}
 use Rattle.std.specs.List.{Contains, AllPairs}
 use Rattle.tandem_base.specs.declared.names.Place.{Place}
 use Rattle.tandem_base.specs.Extents.{IsAligned}
+use Rattle.tandem_base.specs.Granules.{IsGranule}
 use Rattle.rvwmo_model.specs.declared.instructions.Retired.{Retired}
 use Rattle.rvwmo_model.specs.declared.operations.Op.{Op}
 use Rattle.rvwmo_model.specs.declared.traces.Trace.{Trace}
@@ -36,10 +37,6 @@ pub record IsWhole (o : Op) : Type 0 where
 abbrev pub HasOne : Trace → Retired → Type 0
 HasOne t w =
     (o : Op) × Contains t.ops o × IsOf w o × ((v : Op) → Contains t.ops v → IsOf w v → v ≡ o)
-
--- the size of the block that a reservation covers; 0 where there is no block
-abbrev pub IsGranule : ℕ → Type 0
-IsGranule g = (g ≡ 0) ⊎ (g ≡ 8) ⊎ (g ≡ 16) ⊎ (g ≡ 32) ⊎ (g ≡ 64)
 
 -- a trace is in form
 pub record InForm (t : Trace) : Type 0 where

@@ -14,7 +14,11 @@ use Rattle.rvwmo_model.specs.Rules.{Rule, Orders, Broken}
 use Rattle.rvwmo_model.specs.InsnKinds.{in_set, fence_orders}
 use Rattle.rvwmo_model.specs.InForm.{InForm}
 use Rattle.rvwmo_model.specs.declared.answers.Judged.{Judged}
-use Rattle.rvwmo_model.specs.Report.{IsReported, IsAnswer}
+use Rattle.rvwmo_model.specs.declared.answers.Last.{Last}
+use Rattle.rvwmo_model.specs.Last.{IsLast}
+use Rattle.rvwmo_model.specs.LastAnswer.{newest_answer}
+use Rattle.std.specs.declared.option.Option.{Option}
+use Rattle.rvwmo_model.specs.Report.{IsReportedPair, IsAnswer}
 
 -- a strict total order on the members of a list
 pub record IsTotalOn (os : List Op) : Type 0 where
@@ -66,13 +70,13 @@ AmoIsLoadAndStore = (k : Rule) (t : Trace) (a b : Op) → IsLoadAndStore k t a b
 -- at most one pair is reported
 abbrev pub ReportIsOne : Type 0
 ReportIsOne =
-    (t : Trace) → InForm t → (j k : Rule) (a b c d : Op) → IsReported t j a b → IsReported t k c d
+    (t : Trace) → InForm t → (j k : Rule) (a b c d : Op) → IsReportedPair t j a b → IsReportedPair t k c d
     → (j ≡ k) × (a ≡ c) × (b ≡ d)
 
 -- a pair is reported exactly where one is broken
 abbrev pub ReportIsWhereBroken : Type 0
 ReportIsWhereBroken = (t : Trace) → InForm t
-    → ((k : Rule) × (a : Op) × (b : Op) × IsReported t k a b)
+    → ((k : Rule) × (a : Op) × (b : Op) × IsReportedPair t k a b)
     ↔ ((k : Rule) × (a : Op) × (b : Op) × Broken k t a b)
 
 -- a trace has at most one answer
@@ -92,3 +96,20 @@ abbrev pub AnswerOfMembers : Type 0
 AnswerOfMembers =
     (initial : ℕ → ℕ) (t t' : Trace) (j : Judged) → InForm t → InForm t' → IsReordered t t'
     → IsAnswer initial t j ↔ IsAnswer initial t' j
+
+-- what the plain program answers at the newest step of a trace is an answer
+abbrev pub LastIsComputed : Type 0
+LastIsComputed = (initial : ℕ → ℕ) (t : Trace) (hart : ℕ) (tag : Option ℕ) → InForm t
+    → IsLast initial t hart tag (newest_answer initial t hart tag)
+
+-- there is at most one
+abbrev pub LastIsOne : Type 0
+LastIsOne =
+    (initial : ℕ → ℕ) (t : Trace) (hart : ℕ) (tag : Option ℕ) → InForm t → (p q : Last) → IsLast initial t hart tag p
+    → IsLast initial t hart tag q → p ≡ q
+
+-- the order of the lists of operations and of early stores doesn't change it
+abbrev pub LastOfMembers : Type 0
+LastOfMembers =
+    (initial : ℕ → ℕ) (t t' : Trace) (hart : ℕ) (tag : Option ℕ) (l : Last) → InForm t → InForm t' → IsReordered t t'
+    → IsLast initial t hart tag l ↔ IsLast initial t' hart tag l

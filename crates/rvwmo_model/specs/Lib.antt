@@ -5,7 +5,8 @@ pub mod Dependencies
 pub mod Flows
 pub mod InForm
 pub mod InsnKinds
-pub mod Initial
+pub mod Last
+pub mod LastAnswer
 pub mod Laws
 pub mod Legal
 pub mod Order

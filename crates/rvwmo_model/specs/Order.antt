@@ -15,12 +15,12 @@ use Rattle.rvwmo_model.specs.declared.traces.Trace.{Trace}
 -- waiting stores, by its hart and tag
 pub data Standing : Type 0 where
   performed : Place → Standing
-  waiting : (hart tag : ℕ) → Standing
+  unperformed : (hart tag : ℕ) → Standing
 
 -- where an operation of that name and place stands
 abbrev pub standing_of : OpName → Option Place → Standing
 standing_of n (Some p) = performed p
-standing_of n None = waiting n.hart n.tag
+standing_of n None = unperformed n.hart n.tag
 
 -- where an operation stands
 abbrev pub standing : Op → Standing
@@ -29,9 +29,9 @@ standing o = standing_of o.name o.place
 -- what is performed comes first, by its place; what waits comes after it, by hart, then in program order
 unfoldable pub stands_before : Standing → Standing → Bool
 stands_before (performed p) (performed q) = earlier p q
-stands_before (performed p) (waiting h k) = true
-stands_before (waiting g j) (performed q) = false
-stands_before (waiting g j) (waiting h k) = nat_lt g h || ((g == h) && nat_lt j k)
+stands_before (performed p) (unperformed h k) = true
+stands_before (unperformed g j) (performed q) = false
+stands_before (unperformed g j) (unperformed h k) = nat_lt g h || ((g == h) && nat_lt j k)
 
 -- a precedes b in the global memory order (14.1)
 abbrev pub precedes : Op → Op → Bool
@@ -61,12 +61,12 @@ kind_stores Store = true
 kind_stores Both = true
 
 -- an operation loads
-abbrev pub loads : Op → Bool
-loads o = kind_loads o.kind
+abbrev pub op_loads : Op → Bool
+op_loads o = kind_loads o.kind
 
 -- an operation stores
-abbrev pub stores : Op → Bool
-stores o = kind_stores o.kind
+abbrev pub op_stores : Op → Bool
+op_stores o = kind_stores o.kind
 
 -- the byte at x is one of the operation's: it lies in the extent, and its bit of the mask is set
 abbrev pub has_byte : ℕ → Op → Bool
@@ -74,11 +74,11 @@ has_byte x o = is_among o.extent.addr o.extent.len x && ((o.mask / 2 ^ (x - o.ex
 
 -- the operation stores to the byte at x
 abbrev pub writes : ℕ → Op → Bool
-writes x o = stores o && has_byte x o
+writes x o = op_stores o && has_byte x o
 
 -- the operation loads the byte at x
 abbrev pub reads : ℕ → Op → Bool
-reads x o = loads o && has_byte x o
+reads x o = op_loads o && has_byte x o
 
 -- what the operation loaded from the byte at x
 abbrev pub got_at : Op → ℕ → ℕ

@@ -1,6 +1,8 @@
 -- Which offence of a trace is answered.
 use Rattle.std.specs.Prelude.{ℕ, ◌<◌, ◌≤◌, ◌≡◌, ◌≢◌, true, false, Some}
 use Rattle.std.specs.List.{Contains}
+use Rattle.tandem_base.specs.declared.names.OpName.{OpName}
+use Rattle.tandem_base.specs.declared.names.Origin.{Origin}
 use Rattle.rvwmo_model.specs.declared.answers.Judged.{Judged}
 use Rattle.rvwmo_model.specs.declared.answers.Judged.TheVariants as judged
 use Rattle.rvwmo_model.specs.declared.operations.Op.{Op}
@@ -49,7 +51,7 @@ IsSecond k t b = (a : Op) × Broken k t a b
 
 -- the broken pair that is reported: of the least rule that is broken, with the second operation of the least name, and
 -- with the latest first operation
-pub record IsReported (t : Trace) (k : Rule) (a b : Op) : Type 0 where
+pub record IsReportedPair (t : Trace) (k : Rule) (a b : Op) : Type 0 where
   pub rule : (j : Rule) → number j < number k → (c d : Op) → Broken j t c d → ⊥
   pub second : IsLeast (IsSecond k t) b
   pub first : IsLatest (λ c. Broken k t c b) a
@@ -79,12 +81,12 @@ pub data Blamed (t : Trace) (r w : Op) (x : ℕ) : Op → Type 0 where
 
 -- the byte and the store that are named for the pair r and w: by the lowest byte of r that shows it, else by the last
 -- store to the block, at its lowest address there
-pub data Shown (t : Trace) (r w : Op) : ℕ → Op → Type 0 where
+pub data TornBy (t : Trace) (r w : Op) : ℕ → Op → Type 0 where
   -- a byte of r shows it
-  byte : (x : ℕ) (s : Op) → IsLowest (IsTornAt t r w) x → Blamed t r w x s → Shown t r w x s
+  byte : (x : ℕ) (s : Op) → IsLowest (IsTornAt t r w) x → Blamed t r w x s → TornBy t r w x s
   -- its block does
   block : (x : ℕ) (s : Op) → ((y : ℕ) → IsTornAt t r w y → ⊥) → IsLatest (IntrudesBlock t r w) s
-      → IsLowest (WritesBlock t r s) x → Shown t r w x s
+      → IsLowest (WritesBlock t r s) x → TornBy t r w x s
 
 -- each successful SC has its pair
 abbrev pub AllPaired : Trace → Type 0
@@ -98,19 +100,55 @@ AllRight initial t = (i : Op) (x : ℕ) → WrongValue initial t i x → ⊥
 abbrev pub AllOrdered : Trace → Type 0
 AllOrdered t = (k : Rule) (a b : Op) → Broken k t a b → ⊥
 
+-- the answer Pair: no successful SC without a pair has a lesser name than this one
+pub record IsPairAnswer (t : Trace) (name : OpName) : Type 0 where
+  pub sc : Op
+  pub named : sc.name ≡ name
+  pub least : IsLeast (Unpaired t) sc
+
+-- the answer Value: each SC has its pair; no load with a wrong byte has a lesser name than this one, and x is its
+-- lowest wrong byte, of which its source gives `want`, and it loaded `got`
+pub record IsValueAnswer (initial : ℕ → ℕ) (t : Trace) (name : OpName) (x want got : ℕ) : Type 0 where
+  pub paired : AllPaired t
+  pub load : Op
+  pub named : load.name ≡ name
+  pub least : IsLeast (HasWrong initial t) load
+  pub lowest : IsLowest (WrongValue initial t load) x
+  pub wanted : want ≡ byte_from initial (source t load x) x
+  pub loaded : got ≡ got_at load x
+
+-- the answer Order: each SC has its pair, and each loaded byte is right; the pair of these names is the one reported,
+-- by the rule of this number
+pub record IsOrderAnswer (initial : ℕ → ℕ) (t : Trace) (rule : ℕ) (first second : OpName) : Type 0 where
+  pub paired : AllPaired t
+  pub right : AllRight initial t
+  pub broken : Rule
+  pub before : Op
+  pub after : Op
+  pub numbered : rule ≡ number broken
+  pub first_named : before.name ≡ first
+  pub second_named : after.name ≡ second
+  pub reported : IsReportedPair t broken before after
+
+-- the answer Atomicity: each SC has its pair, each loaded byte is right, and no pair is broken; no SC in a pair that
+-- isn't atomic has a lesser name than this one, and it is torn from its LR at byte x by the store
+pub record IsAtomicityAnswer (initial : ℕ → ℕ) (t : Trace) (name : OpName) (x : ℕ) (store : Origin) : Type 0 where
+  pub paired : AllPaired t
+  pub right : AllRight initial t
+  pub ordered : AllOrdered t
+  pub sc : Op
+  pub lr : Op
+  pub blamed : Op
+  pub named : sc.name ≡ name
+  pub least : IsLeast (IsTorn t) sc
+  pub torn : Torn t lr sc
+  pub shown : TornBy t lr sc x blamed
+  pub keyed : key_of blamed ≡ store
+
 -- the answer to a trace: the first offence of pair, value, order and atomicity, or that it is legal
 abbrev pub IsAnswer : (ℕ → ℕ) → Trace → Judged → Type 0
 IsAnswer initial t judged.Legal = Legal initial t
-IsAnswer initial t (judged.Pair name) = (w : Op) × (w.name ≡ name) × IsLeast (Unpaired t) w
-IsAnswer initial t (judged.Value name x want got) =
-    AllPaired t
-    × ((i : Op) × (i.name ≡ name) × IsLeast (HasWrong initial t) i × IsLowest (WrongValue initial t i) x
-    × (want ≡ byte_from initial (source t i x) x) × (got ≡ got_at i x))
-IsAnswer initial t (judged.Order rule first second) =
-    AllPaired t × AllRight initial t
-    × ((k : Rule) × (a : Op) × (b : Op) × (rule ≡ number k) × (a.name ≡ first) × (b.name ≡ second)
-    × IsReported t k a b)
-IsAnswer initial t (judged.Atomicity name x store) =
-    AllPaired t × AllRight initial t × AllOrdered t
-    × ((w : Op) × (r : Op) × (s : Op) × (w.name ≡ name) × IsLeast (IsTorn t) w × Torn t r w × Shown t r w x s
-    × (key_of s ≡ store))
+IsAnswer initial t (judged.Pair name) = IsPairAnswer t name
+IsAnswer initial t (judged.Value name x want got) = IsValueAnswer initial t name x want got
+IsAnswer initial t (judged.Order rule first second) = IsOrderAnswer initial t rule first second
+IsAnswer initial t (judged.Atomicity name x store) = IsAtomicityAnswer initial t name x store

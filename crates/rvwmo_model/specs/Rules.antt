@@ -7,7 +7,7 @@ pub use Rattle.rvwmo_model.specs.declared.preserved.Rule.{Rule}
 pub use Rattle.rvwmo_model.specs.declared.preserved.Rule.TheVariants.{R1, R2, R3, R4, R5, R6, R7, R8, R9, R10, R11}
 pub use Rattle.rvwmo_model.specs.declared.preserved.Rule.TheVariants.{R12, R13}
 use Rattle.rvwmo_model.specs.declared.traces.Trace.{Trace}
-use Rattle.rvwmo_model.specs.Order.{stores, has_byte, reads, writes, precedes}
+use Rattle.rvwmo_model.specs.Order.{op_stores, has_byte, reads, writes, precedes}
 use Rattle.rvwmo_model.specs.ProgramOrder.{insn_at, insn_of, is_one}
 use Rattle.rvwmo_model.specs.Sources.{source, origin}
 use Rattle.rvwmo_model.specs.Flows.{AddressDep, DataDep, BranchDep}
@@ -107,7 +107,7 @@ DataFrom t a b = DataOn t a b.name.tag
 
 -- 11: b is a store, and b has a syntactic control dependency on a
 abbrev pub ControlFrom : Trace → Op → Op → Type 0
-ControlFrom t a b = (stores b ≡ true) × SomeBetween (BranchOn t a) a b
+ControlFrom t a b = (op_stores b ≡ true) × SomeBetween (BranchOn t a) a b
 
 -- ---- pipeline dependencies
 
@@ -119,7 +119,7 @@ ReadsDependent t a b = SomeBetween (λ m. (AddressOn t a m ⊎ DataOn t a m) × 
 -- 13: b is a store, and there exists some instruction m between a and b in program order such that m has an address
 -- dependency on a
 abbrev pub AddressBetween : Trace → Op → Op → Type 0
-AddressBetween t a b = (stores b ≡ true) × SomeBetween (AddressOn t a) a b
+AddressBetween t a b = (op_stores b ≡ true) × SomeBetween (AddressOn t a) a b
 
 -- ---- the order
 

@@ -8,7 +8,7 @@ use Rattle.rvwmo_model.specs.declared.judge.walk.Use.{Use}
 use Rattle.rvwmo_model.specs.declared.judge.walk.Use.TheVariants.{Address, Data, Control}
 use Rattle.rvwmo_model.specs.declared.operations.Op.{Op}
 use Rattle.rvwmo_model.specs.declared.traces.Trace.{Trace}
-use Rattle.rvwmo_model.specs.Order.{stores, has_byte, reads, writes, precedes, got_at}
+use Rattle.rvwmo_model.specs.Order.{op_stores, has_byte, reads, writes, precedes, got_at}
 use Rattle.rvwmo_model.specs.ProgramOrder.{insn_of, is_one}
 use Rattle.rvwmo_model.specs.Sources.{latest_from, source, byte_from, origin}
 use Rattle.rvwmo_model.specs.Rules.{Rule, R1, R2, R3, R4, R5, R6, R7, R8, R9, R10, R11, R12, R13}
@@ -120,9 +120,9 @@ orders R7 t a b = has_rcsc a && has_rcsc b
 orders R8 t a b = is_pair_of t a b
 orders R9 t a b = depends_at Address t a b.name.tag
 orders R10 t a b = depends_at Data t a b.name.tag
-orders R11 t a b = stores b && depends_between Control t a b
+orders R11 t a b = op_stores b && depends_between Control t a b
 orders R12 t a b = reads_dependent t a b
-orders R13 t a b = stores b && depends_between Address t a b
+orders R13 t a b = op_stores b && depends_between Address t a b
 
 -- and b comes before a
 abbrev pub is_broken : Rule → Trace → Op → Op → Bool
@@ -146,12 +146,12 @@ is_pair t r w =
     (w.name.hart == r.name.hart) && nat_lt r.name.tag w.name.tag && is_pair_of t r w && has_stored (insn_of t w)
 
 -- each byte of w is one of r
-abbrev pub is_within : Op → Op → Bool
-is_within w r = not (some_byte (λ x. has_byte x w && not (has_byte x r)) w)
+abbrev pub is_covered_by : Op → Op → Bool
+is_covered_by w r = not (some_byte (λ x. has_byte x w && not (has_byte x r)) w)
 
 -- w is of a successful SC without a pair whose bytes contain its own
 abbrev pub is_unpaired : Trace → Op → Bool
-is_unpaired t w = has_stored (insn_of t w) && not (list_any (λ r. is_pair t r w && is_within w r) t.ops)
+is_unpaired t w = has_stored (insn_of t w) && not (list_any (λ r. is_pair t r w && is_covered_by w r) t.ops)
 
 -- ---- atomicity
 
@@ -211,5 +211,5 @@ abbrev pub intrudes_block : Trace → Op → Op → Op → Bool
 intrudes_block t r w v = is_other_before w v && precedes r v && is_some (block_byte t r v)
 
 -- the pair r and w isn't atomic
-abbrev pub is_torn : Trace → Op → Op → Bool
-is_torn t r w = is_pair t r w && (is_some (torn_byte t r w) || some_everywhere (intrudes_block t r w) t)
+abbrev pub is_pair_torn : Trace → Op → Op → Bool
+is_pair_torn t r w = is_pair t r w && (is_some (torn_byte t r w) || some_everywhere (intrudes_block t r w) t)

@@ -5,7 +5,7 @@ use Rattle.std.specs.List.{Contains, filter, list_any}
 use Rattle.std.specs.declared.option.Option.{Option}
 use Rattle.rv_decode.specs.declared.instruction.Insn.{Insn}
 use Rattle.rv_decode.specs.declared.registers.Register.{Register}
-use Rattle.rv_decode.specs.Registers.{sets, carries, is_address, is_data, is_control, rd_of, csr_of}
+use Rattle.rv_decode.specs.Registers.{sets, carries, is_address, is_data, is_control, named_rd, named_csr}
 use Rattle.rvwmo_model.specs.declared.instructions.Retired.{Retired}
 use Rattle.rvwmo_model.specs.declared.judge.walk.Search.{Search}
 use Rattle.rvwmo_model.specs.declared.judge.walk.Use.{Use}
@@ -39,8 +39,8 @@ list_of (Some r) = r ∷ []
 -- the marked registers after w: those that it doesn't set, and those that it marks
 abbrev pub mark : Retired → Bool → List Register → List Register
 mark w starts marks =
-    (filter (λ r. not (sets w.insn w.stored r)) marks ++ list_of (fresh w starts marks (rd_of w.insn)))
-    ++ list_of (fresh w starts marks (csr_of w.insn))
+    (filter (λ r. not (sets w.insn w.stored r)) marks ++ list_of (fresh w starts marks (named_rd w.insn)))
+    ++ list_of (fresh w starts marks (named_csr w.insn))
 
 -- w is asked about, and has a marked register in the use that is asked for
 abbrev pub is_found : Search → List Register → Retired → Bool

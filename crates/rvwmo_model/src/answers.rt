@@ -42,3 +42,36 @@ pub enum Judged {
         store: Origin,
     },
 }
+
+/// What stands in a trace at its newest step: a hart retires an instruction, or performs stores.
+///
+/// Of several offences the first of Value, Order and Atomicity is answered. Value and Atomicity are asked
+/// of the instruction that retires, and of no other.
+#[derive(Clone, Copy, Debug, PartialEq, Eq)]
+pub enum Last {
+    /// None of the three stands.
+    Fine,
+
+    /// The instruction loaded another byte than its source gives; `at` is the lowest such address over
+    /// all its operations.
+    Value {
+        at: u64,
+        want: u8,
+        got: u8,
+    },
+
+    /// Preserved program order puts `first` before `second`, and the global order doesn't; they are
+    /// chosen as in `Judged`.
+    Order {
+        rule: u8,
+        first: OpName,
+        second: OpName,
+    },
+
+    /// The instruction is an SC that isn't atomic with its LR; `at` and `store` are chosen as in
+    /// `Judged`.
+    Atomicity {
+        at: u64,
+        store: Origin,
+    },
+}

@@ -17,7 +17,7 @@ pub trait InitialBytes {
 /// An image's byte, or 0 where it has none.
 impl InitialBytes for Image {
     ghost use Rattle.elf_image.specs.Images.{loaded_of};
-    ghost use Rattle.rvwmo_model.specs.Initial.{initial_byte};
+    ghost use Rattle.elf_image.specs.Images.{initial_byte};
 
     ghost initial_of = { λ image. initial_byte (loaded_of image) };
 

@@ -2,7 +2,7 @@
 
 ghost use Rattle.rvwmo_model.specs.Laws.{GlobalOrder, SourceIsLatest, DependencyIsWalk, FenceTso, FenceBySets};
 ghost use Rattle.rvwmo_model.specs.Laws.{AmoIsLoadAndStore, ReportIsOne, ReportIsWhereBroken};
-ghost use Rattle.rvwmo_model.specs.Laws.{AnswerIsOne, AnswerOfMembers};
+ghost use Rattle.rvwmo_model.specs.Laws.{AnswerIsOne, AnswerOfMembers, LastIsComputed, LastIsOne, LastOfMembers};
 
 /// The global order is a strict total order on the operations of a trace in form.
 #[tactic(auto, using(crate::proofs::Totality::total_order))]
@@ -59,4 +59,22 @@ pub fn answer_is_one()
 #[tactic(auto, using(crate::proofs::Reordered::answer_of_members))]
 pub fn answer_is_of_members()
     ensures { AnswerOfMembers }
+{}
+
+/// What the plain program answers at the newest step of a trace in form is an answer.
+pub fn last_is_computed()
+    ensures { LastIsComputed }
+{}
+
+/// A trace in form has one answer at its newest step.
+#[tactic(auto, using(crate::proofs::LastUnique::last_one))]
+pub fn last_is_one()
+    ensures { LastIsOne }
+{}
+
+/// Two traces in form with the same instructions, and with the same operations and early stores in
+/// whatever order, have the same answer at their newest step.
+#[tactic(auto, using(crate::proofs::LastUnique::last_of_members))]
+pub fn last_is_of_members()
+    ensures { LastOfMembers }
 {}

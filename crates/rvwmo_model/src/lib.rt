@@ -15,17 +15,16 @@ mod operations;
 mod preserved;
 mod traces;
 
-pub use answers::Judged;
+pub use answers::{Judged, Last};
 pub use initial::InitialBytes;
 pub use instructions::Retired;
-pub use judge::plain_judge;
+pub use judge::{plain_judge, plain_last};
 pub use laws::{
     amo_is_load_and_store, answer_is_of_members, answer_is_one, dependency_is_walk,
-    fence_orders_kinds, global_order_is_total, report_is_one, report_is_where_broken,
-    source_is_latest,
+    fence_orders_kinds, global_order_is_total, last_is_computed, last_is_of_members, last_is_one,
+    report_is_one, report_is_where_broken, source_is_latest,
 };
-pub use lists::{InsnList, ItemList, OpList};
+pub use lists::{InsnList, OpList};
 pub use operations::{Ann, Op, OpKind};
-pub use preserved::Rule;
 pub use rv_decode::registers::Register;
 pub use traces::Trace;

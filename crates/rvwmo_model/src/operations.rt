@@ -77,7 +77,7 @@ impl OpKind {
     ghost use Rattle.rvwmo_model.specs.Order;
 
     /// Whether an operation of this kind loads.
-    pub fn loads(self) -> bool
+    pub(crate) fn loads(self) -> bool
         ensures { result ≡ Order.kind_loads self }
     {
         match self {
@@ -88,7 +88,7 @@ impl OpKind {
     }
 
     /// Whether an operation of this kind stores.
-    pub fn stores(self) -> bool
+    pub(crate) fn stores(self) -> bool
         ensures { result ≡ Order.kind_stores self }
     {
         match self {
@@ -105,21 +105,21 @@ impl Op {
     ghost use Rattle.rvwmo_model.specs.ProgramOrder.{is_older};
 
     /// Whether the byte at `x` is one of the operation's.
-    pub fn has_byte(&self, x: u64) -> bool
+    pub(crate) fn has_byte(&self, x: u64) -> bool
         ensures { result ≡ Order.has_byte x self.now }
     {
         self.extent.has(x) && (self.mask >> (x - self.extent.addr)) & 1 == 1
     }
 
     /// Whether the operation loads the byte at `x`.
-    pub fn reads(&self, x: u64) -> bool
+    pub(crate) fn reads(&self, x: u64) -> bool
         ensures { result ≡ Order.reads x self.now }
     {
         self.kind.loads() && self.has_byte(x)
     }
 
     /// Whether the operation stores to the byte at `x`.
-    pub fn writes(&self, x: u64) -> bool
+    pub(crate) fn writes(&self, x: u64) -> bool
         ensures { result ≡ Order.writes x self.now }
     {
         self.kind.stores() && self.has_byte(x)
@@ -127,7 +127,7 @@ impl Op {
 
     /// Whether this operation comes before another in the global order.
     #[tactic(auto, unfolding(crate::specs::Order::stands_before))]
-    pub fn precedes(&self, other: &Op) -> bool
+    pub(crate) fn precedes(&self, other: &Op) -> bool
         ensures { result ≡ Order.precedes self.now other.now }
     {
         match (self.place, other.place) {
@@ -140,7 +140,7 @@ impl Op {
     }
 
     /// Whether the instruction of this operation comes before that of another in program order.
-    pub fn is_older(&self, other: &Op) -> bool
+    pub(crate) fn is_older(&self, other: &Op) -> bool
         ensures { result ≡ is_older self.now other.now }
     {
         self.name.hart == other.name.hart && self.name.tag < other.name.tag

@@ -48,7 +48,7 @@ impl Rule {
     ghost use Rattle.rvwmo_model.specs.Report.{number};
 
     /// The rule's number, from 1 to 13.
-    pub fn number(self) -> u8
+    pub(crate) fn number(self) -> u8
         ensures { result ≡ number self }
     {
         match self {

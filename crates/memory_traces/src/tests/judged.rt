@@ -1,10 +1,13 @@
 //! Traces whose answers come from the text of the model and from an independent reading.
 mod blocks;
+mod carrying;
 mod choices;
+mod dependencies;
 mod finer;
 mod initial;
 mod near;
-mod rows;
+pub mod pairs;
+pub mod rows;
 mod rules;
 mod shapes;
 
@@ -54,7 +57,7 @@ fn judges_nothing(rt: HostRuntime) -> Result<(), Fail> {
     Ok(())
 }
 
-// Rows, rules and shapes.
+// Rows, pairs, rules and shapes.
 #[test]
 fn judges_tables(rt: HostRuntime) -> Result<(), Fail> {
     let alloc = rt.alloc();
@@ -64,6 +67,12 @@ fn judges_tables(rt: HostRuntime) -> Result<(), Fail> {
         early: &rows::EARLY,
     };
     each(&rt, alloc, &rows::CASES, &tables)?;
+    let tables = Tables {
+        insns: &pairs::INSNS,
+        ops: &pairs::OPS,
+        early: &pairs::EARLY,
+    };
+    each(&rt, alloc, &pairs::CASES, &tables)?;
     let tables = Tables {
         insns: &rules::INSNS,
         ops: &rules::OPS,
@@ -80,12 +89,19 @@ fn judges_tables(rt: HostRuntime) -> Result<(), Fail> {
 
 #[test]
 fn judges_choices(rt: HostRuntime) -> Result<(), Fail> {
+    let alloc = rt.alloc();
     let tables = Tables {
         insns: &choices::INSNS,
         ops: &choices::OPS,
         early: &choices::EARLY,
     };
-    each(&rt, rt.alloc(), &choices::CASES, &tables)
+    each(&rt, alloc, &choices::CASES, &tables)?;
+    let tables = Tables {
+        insns: &dependencies::INSNS,
+        ops: &dependencies::OPS,
+        early: &dependencies::EARLY,
+    };
+    each(&rt, alloc, &dependencies::CASES, &tables)
 }
 
 #[test]
@@ -97,6 +113,12 @@ fn tells_near_readings_apart(rt: HostRuntime) -> Result<(), Fail> {
         early: &near::EARLY,
     };
     each(&rt, alloc, &near::CASES, &tables)?;
+    let tables = Tables {
+        insns: &carrying::INSNS,
+        ops: &carrying::OPS,
+        early: &carrying::EARLY,
+    };
+    each(&rt, alloc, &carrying::CASES, &tables)?;
     let tables = Tables {
         insns: &finer::INSNS,
         ops: &finer::OPS,

@@ -1,9 +1,12 @@
-//! What `plain_judge` answers to the traces of the tables.
+//! What `plain_judge` and `plain_last` answer to the traces of the tables.
 ghost use Rattle.std.specs.Prelude.{◌≡◌, ◌++◌, IfOk};
+ghost use Rattle.rvwmo_model.specs.InForm.{InForm};
 
-use super::forms::is_in_form;
 use super::table::Lists;
-use rvwmo_model::{InitialBytes, InsnList, Judged, Op, OpList, Retired, Trace, plain_judge};
+use crate::forms::is_in_form;
+use rvwmo_model::{
+    InitialBytes, InsnList, Judged, Last, Op, OpList, Retired, Trace, plain_judge, plain_last,
+};
 use std::alloc::Global;
 use std::test::Fail;
 
@@ -43,30 +46,35 @@ fn op_list(alloc: Global, ops: &[Op]) -> Result<OpList, Fail>
     Ok(list)
 }
 
-/// What is answered to a trace over that memory. In `all` stand its operations, and then its early
+/// The trace of these lists, where it is in form. In `all` stand its operations, and then its early
 /// stores.
-#[tactic(auto, using(crate::proofs::Formed::formed))]
-fn answer<I: InitialBytes>(
+fn formed(
     alloc: Global,
-    image: &I,
     granule: u8,
     insns: &[Retired],
     ops: &[Op],
     early: &[Op],
     all: &[Op],
-) -> Result<Judged, Fail>
+) -> Result<Trace, Fail>
     requires { all.now ≡ ops.now ++ early.now }
+    ensures { IfOk result InForm }
 {
     if !is_in_form(granule, insns, ops, early, all) {
         return Err(Fail::from("a trace that isn't in form"));
     }
-    let trace = Trace {
+    Ok(Trace {
         insns: insn_list(alloc, insns)?,
         ops: op_list(alloc, ops)?,
         early: op_list(alloc, early)?,
         granule,
-    };
-    Ok(plain_judge(alloc, image, &trace)?)
+    })
+}
+
+fn trace_of(alloc: Global, lists: &Lists) -> Result<Trace, Fail>
+    ensures { IfOk result InForm }
+{
+    let (ops, early) = lists.all.split_at(lists.count.min(lists.all.len()));
+    formed(alloc, lists.granule, &lists.insns, ops, early, &lists.all)
 }
 
 /// What is answered to the trace of these lists over that memory.
@@ -75,19 +83,17 @@ pub fn judged_over<I: InitialBytes>(
     image: &I,
     lists: &Lists,
 ) -> Result<Judged, Fail> {
-    let (ops, early) = lists.all.split_at(lists.count.min(lists.all.len()));
-    answer(
-        alloc,
-        image,
-        lists.granule,
-        &lists.insns,
-        ops,
-        early,
-        &lists.all,
-    )
+    let trace = trace_of(alloc, lists)?;
+    Ok(plain_judge(alloc, image, &trace)?)
 }
 
 /// What is answered to the trace of these lists, over memory that is all that byte at first.
 pub fn judged(alloc: Global, byte: u8, lists: &Lists) -> Result<Judged, Fail> {
     judged_over(alloc, &Filled { byte }, lists)
+}
+
+/// What is answered to that trace at its newest step, over memory that is 0 at first.
+pub fn newest(alloc: Global, lists: &Lists, hart: u8, tag: Option<u64>) -> Result<Last, Fail> {
+    let trace = trace_of(alloc, lists)?;
+    Ok(plain_last(alloc, &Filled { byte: 0 }, &trace, hart, tag)?)
 }

@@ -1,6 +1,6 @@
 //! Traces as tables, and the answers that are wanted.
 use rv_decode::{AmoOp, BranchOp, CsrOp, ImmOp, Insn, LoadOp, RegOp, StoreOp};
-use rvwmo_model::{Ann, Judged, Op, OpKind, Retired};
+use rvwmo_model::{Ann, Judged, Last, Op, OpKind, Retired};
 use std::alloc::Global;
 use std::test::Fail;
 use tandem_base::{Bytes8, Extent, OpName, Origin, Place};
@@ -10,6 +10,9 @@ pub type Name = (u8, u64, u8);
 
 /// Number, granule and answer.
 pub type CaseRow = (u8, u8, Want);
+
+/// Number of the trace and granule, the hart and the tag that are asked, and answer.
+pub type LastRow = (u8, u8, u8, Option<u64>, LastWant);
 
 /// Number, granule, how it comes from another case, and answer.
 pub type GrownRow = (u8, u8, Step, Want);
@@ -89,6 +92,14 @@ pub enum Want {
     Value(Name, u64, u8, u8),
     Order(u8, Name, Name),
     Atomicity(Name, u64, (u8, u64)),
+}
+
+#[derive(Clone, Copy)]
+pub enum LastWant {
+    Fine,
+    Wrong(u64, u8, u8),
+    Disordered(u8, Name, Name),
+    Torn(u64, (u8, u64)),
 }
 
 /// How a trace comes from that of an earlier case: by a growth, or by what lacks one premise of a growth.
@@ -232,7 +243,7 @@ fn sc(rd: u8, rs1: u8, rs2: u8) -> Insn {
     }
 }
 
-fn insn_of(kind: Kind, rd: u8, rs1: u8, last: u16) -> Insn {
+fn insn_from(kind: Kind, rd: u8, rs1: u8, last: u16) -> Insn {
     let rs2 = (last & 0xff) as u8;
     match kind {
         Kind::Lui => Insn::Lui { rd, imm: 0 },
@@ -267,7 +278,7 @@ fn retired_of(row: &InsnRow) -> Retired {
     Retired {
         hart: row.2,
         tag: row.3,
-        insn: insn_of(row.4, row.5, row.6, row.7),
+        insn: insn_from(row.4, row.5, row.6, row.7),
         stored: row.8,
     }
 }
@@ -277,7 +288,7 @@ fn bytes_of(value: u64, extent: &Extent) -> Option<Bytes8> {
     Bytes8::new(&bytes[..usize::from(extent.len())])
 }
 
-fn place_of(place: PlaceRow) -> Option<Place> {
+fn place_from(place: PlaceRow) -> Option<Place> {
     match place {
         None => None,
         Some((time, message, insert)) => Some(Place {
@@ -303,7 +314,7 @@ fn op_of(row: &OpRow) -> Option<Op> {
         put,
         acquire,
         release,
-        place: place_of(row.6),
+        place: place_from(row.6),
     })
 }
 
@@ -367,6 +378,23 @@ pub fn wanted(want: Want) -> Judged {
         },
         Want::Atomicity(name, at, (hart, tag)) => Judged::Atomicity {
             name: name_of(name),
+            at,
+            store: Origin { hart, tag },
+        },
+    }
+}
+
+/// The answer that a table wants at the newest step.
+pub fn last_wanted(want: LastWant) -> Last {
+    match want {
+        LastWant::Fine => Last::Fine,
+        LastWant::Wrong(at, want, got) => Last::Value { at, want, got },
+        LastWant::Disordered(rule, first, second) => Last::Order {
+            rule,
+            first: name_of(first),
+            second: name_of(second),
+        },
+        LastWant::Torn(at, (hart, tag)) => Last::Atomicity {
             at,
             store: Origin { hart, tag },
         },

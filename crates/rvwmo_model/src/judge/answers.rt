@@ -10,7 +10,7 @@ ghost use Rattle.rvwmo_model.specs.Sources;
 ghost use Rattle.rvwmo_model.specs.Tests;
 
 use super::atomic::{
-    blamed, block_byte, is_torn, is_unpaired, latest_intruder, or_address, torn_byte,
+    blamed, block_byte, is_pair_torn, is_unpaired, latest_intruder, or_address, torn_byte,
 };
 use super::naming::least;
 use super::order::order_answer;
@@ -56,14 +56,16 @@ fn byte_from<I: InitialBytes>(image: &I, source: &Option<Op>, x: u64) -> u8
     }
 }
 
-fn is_wrong<I: InitialBytes>(image: &I, t: &Trace, i: &Op, x: u64) -> bool
+/// Whether a byte of a load isn't its source's.
+pub fn is_wrong<I: InitialBytes>(image: &I, t: &Trace, i: &Op, x: u64) -> bool
     ensures { result ≡ Tests.is_wrong (I.initial_of image.now) t.now i.now x }
 {
     i.reads(x) && i.got_at(x) != byte_from(image, &source(t, i, x), x)
 }
 
+/// The lowest wrong byte of a load.
 #[tactic(auto, unfolding(crate::specs::Search::first_at))]
-fn wrong_byte<I: InitialBytes>(image: &I, t: &Trace, i: &Op) -> Option<u64>
+pub fn wrong_byte<I: InitialBytes>(image: &I, t: &Trace, i: &Op) -> Option<u64>
     ensures { result ≡ Tests.wrong_byte (I.initial_of image.now) t.now i.now }
 {
     let mut found = None;
@@ -86,7 +88,8 @@ fn least_wrong<I: InitialBytes>(image: &I, t: &Trace, ops: &[Op]) -> Option<Op>
     best
 }
 
-fn value_at<I: InitialBytes>(image: &I, t: &Trace, i: &Op, byte: Option<u64>) -> Option<Judged>
+/// The offence of a load at a byte.
+pub fn value_at<I: InitialBytes>(image: &I, t: &Trace, i: &Op, byte: Option<u64>) -> Option<Judged>
     ensures { result ≡ Answer.value_at (I.initial_of image.now) t.now i.now byte }
 {
     match byte {
@@ -113,11 +116,11 @@ pub fn value_answer<I: InitialBytes>(image: &I, t: &Trace) -> Option<Judged>
 // ---- atomicity
 
 fn least_lr(t: &Trace, ops: &[Op], w: &Op) -> Option<Op>
-    ensures { result ≡ Answer.least_of (λ r. Tests.is_torn t.now r w.now) ops.now }
+    ensures { result ≡ Answer.least_of (λ r. Tests.is_pair_torn t.now r w.now) ops.now }
 {
     let mut best = None;
     for r in ops {
-        if is_torn(t, r, w) {
+        if is_pair_torn(t, r, w) {
             best = least(best, r);
         }
     }
@@ -125,18 +128,19 @@ fn least_lr(t: &Trace, ops: &[Op], w: &Op) -> Option<Op>
 }
 
 fn some_lr(t: &Trace, ops: &[Op], w: &Op) -> bool
-    ensures { result ≡ list_any (λ r. Tests.is_torn t.now r w.now) ops.now }
+    ensures { result ≡ list_any (λ r. Tests.is_pair_torn t.now r w.now) ops.now }
 {
     for r in ops {
-        if is_torn(t, r, w) {
+        if is_pair_torn(t, r, w) {
             return true;
         }
     }
     false
 }
 
+/// Whether an SC is in a pair that isn't atomic.
 #[tactic(auto, unfolding(crate::specs::Answer::has_torn))]
-fn has_torn(t: &Trace, w: &Op) -> bool
+pub fn has_torn(t: &Trace, w: &Op) -> bool
     ensures { result ≡ Answer.has_torn t.now w.now }
 {
     some_lr(t, t.ops.items(), w)
@@ -206,7 +210,8 @@ fn torn_of(t: &Trace, r: &Op, w: &Op) -> Option<Judged>
 }
 
 fn pair_torn(t: &Trace, w: &Op) -> Option<Judged>
-    ensures { result ≡ Answer.pair_torn t.now w.now (Answer.least_of (λ r. Tests.is_torn t.now r w.now) t.now.ops) }
+    ensures { result ≡ Answer.pair_torn t.now w.now
+        (Answer.least_of (λ r. Tests.is_pair_torn t.now r w.now) t.now.ops) }
 {
     match least_lr(t, t.ops.items(), w) {
         None => None,
@@ -214,14 +219,20 @@ fn pair_torn(t: &Trace, w: &Op) -> Option<Judged>
     }
 }
 
-/// The offence of atomicity, where there is one.
-pub fn atomicity_answer(t: &Trace) -> Option<Judged>
-    ensures { result ≡ Answer.atomicity_answer t.now }
+/// The offence of atomicity of an SC, where there is one.
+pub fn atomicity_of(t: &Trace, sc: Option<Op>) -> Option<Judged>
+    ensures { result ≡ Answer.atomicity_of t.now sc }
 {
-    match torn_sc(t) {
+    match sc {
         None => None,
         Some(w) => pair_torn(t, &w),
     }
+}
+
+fn atomicity_answer(t: &Trace) -> Option<Judged>
+    ensures { result ≡ Answer.atomicity_answer t.now }
+{
+    atomicity_of(t, torn_sc(t))
 }
 
 // ---- the answer

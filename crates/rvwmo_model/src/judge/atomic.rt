@@ -45,7 +45,7 @@ fn is_pair(t: &Trace, r: &Op, w: &Op) -> bool
 
 #[tactic(auto, unfolding(crate::specs::Search::some_at))]
 fn is_outside(w: &Op, r: &Op) -> bool
-    ensures { result ≡ not (Tests.is_within w.now r.now) }
+    ensures { result ≡ not (Tests.is_covered_by w.now r.now) }
 {
     let mut found = false;
     for j in 0..w.extent.len {
@@ -56,7 +56,7 @@ fn is_outside(w: &Op, r: &Op) -> bool
 }
 
 fn has_pair(t: &Trace, ops: &[Op], w: &Op) -> bool
-    ensures { result ≡ list_any (λ r. Tests.is_pair t.now r w.now && Tests.is_within w.now r) ops.now }
+    ensures { result ≡ list_any (λ r. Tests.is_pair t.now r w.now && Tests.is_covered_by w.now r) ops.now }
 {
     for r in ops {
         if is_pair(t, r, w) && !is_outside(w, r) {
@@ -174,8 +174,8 @@ fn some_intrudes_block(t: &Trace, list: &[Op], r: &Op, w: &Op) -> bool
 }
 
 /// Whether `r` and `w` are a pair that isn't atomic.
-pub fn is_torn(t: &Trace, r: &Op, w: &Op) -> bool
-    ensures { result ≡ Tests.is_torn t.now r.now w.now }
+pub fn is_pair_torn(t: &Trace, r: &Op, w: &Op) -> bool
+    ensures { result ≡ Tests.is_pair_torn t.now r.now w.now }
 {
     is_pair(t, r, w)
         && (torn_byte(t, r, w).is_some()

@@ -64,14 +64,14 @@ fn least_second(alloc: Global, rule: Rule, t: &Trace, ops: &[Op]) -> Result<Opti
     Ok(best)
 }
 
-fn second_of(alloc: Global, rule: Rule, t: &Trace) -> Result<Option<Op>, AllocError>
-    ensures { IfOk result (λ second. second ≡ Answer.second_of rule t.now) }
+fn broken_second(alloc: Global, rule: Rule, t: &Trace) -> Result<Option<Op>, AllocError>
+    ensures { IfOk result (λ second. second ≡ Answer.broken_second rule t.now) }
 {
     least_second(alloc, rule, t, t.ops.items())
 }
 
-fn first_of(alloc: Global, rule: Rule, t: &Trace, b: &Op) -> Result<Option<Op>, AllocError>
-    ensures { IfOk result (λ first. first ≡ Answer.first_of rule t.now b.now) }
+fn broken_first(alloc: Global, rule: Rule, t: &Trace, b: &Op) -> Result<Option<Op>, AllocError>
+    ensures { IfOk result (λ first. first ≡ Answer.broken_first rule t.now b.now) }
 {
     latest_first(alloc, rule, t, t.ops.items(), b)
 }
@@ -90,12 +90,12 @@ fn order_pair(rule: Rule, b: &Op, first: Option<Op>) -> Option<Judged>
 }
 
 fn order_of(alloc: Global, rule: Rule, t: &Trace) -> Result<Option<Judged>, AllocError>
-    ensures { IfOk result (λ answer. answer ≡ Answer.order_of rule t.now (Answer.second_of rule t.now)) }
+    ensures { IfOk result (λ answer. answer ≡ Answer.order_of rule t.now (Answer.broken_second rule t.now)) }
 {
-    match second_of(alloc, rule, t)? {
+    match broken_second(alloc, rule, t)? {
         None => Ok(None),
         Some(b) => {
-            let first = first_of(alloc, rule, t, &b)?;
+            let first = broken_first(alloc, rule, t, &b)?;
             Ok(order_pair(rule, &b, first))
         }
     }

@@ -155,7 +155,7 @@ fn depends_between(alloc: Global, by: Use, t: &Trace, a: &Op, b: &Op) -> Result<
 
 fn stores_after(alloc: Global, by: Use, t: &Trace, a: &Op, b: &Op) -> Result<bool, AllocError>
     requires { a.now.name.tag < b.now.name.tag }
-    ensures { IfOk result (λ found. found ≡ (Order.stores b.now && Tests.depends_between by t.now a.now b.now)) }
+    ensures { IfOk result (λ found. found ≡ (Order.op_stores b.now && Tests.depends_between by t.now a.now b.now)) }
 {
     if b.kind.stores() {
         depends_between(alloc, by, t, a, b)

@@ -10,8 +10,8 @@ ghost use Rattle.rvwmo_model.specs.Walk;
 use crate::instructions::Retired;
 use rv_decode::Insn;
 use rv_decode::registers::{
-    Register, address_source, carries, control_sources, csr_of, data_source, is_address,
-    is_control, is_data, rd_of, sets,
+    Register, address_source, carries, control_sources, data_source, is_address, is_control,
+    is_data, named_csr, named_rd, sets,
 };
 use std::alloc::{AllocError, Global};
 
@@ -114,8 +114,8 @@ fn mark(marks: &mut Vec<Register>, w: &Retired, starts: bool) -> Result<(), Allo
     if marks.is_empty() && !starts {
         return Ok(());
     }
-    let rd = fresh(w, starts, marks.as_slice(), rd_of(&w.insn));
-    let csr = fresh(w, starts, marks.as_slice(), csr_of(&w.insn));
+    let rd = fresh(w, starts, marks.as_slice(), named_rd(&w.insn));
+    let csr = fresh(w, starts, marks.as_slice(), named_csr(&w.insn));
     keep_unset(marks, w);
     push_some(marks, rd)?;
     push_some(marks, csr)?;

@@ -71,10 +71,18 @@ fn changes_of(alloc: Global, before: &Lists, after: &Lists) -> Result<Changes, F
     })
 }
 
+/// Whether `n` is performed, and `v` not before it.
+fn is_no_later(n: &Op, v: &Op) -> bool {
+    match (n.place, v.place) {
+        (Some(q), Some(p)) => !p.is_before(&q),
+        _ => false,
+    }
+}
+
 /// Whether all that is performed precedes `n`.
 fn is_above(before: &[Op], n: &Op) -> bool {
     for v in before {
-        if v.place.is_some() && !v.precedes(n) {
+        if is_no_later(n, v) {
             return false;
         }
     }

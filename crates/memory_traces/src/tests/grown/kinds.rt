@@ -9,7 +9,7 @@ pub fn is_same_insn(a: &Op, b: &Op) -> bool {
 }
 
 /// The kind of the operations of an instruction, where it has some.
-pub fn kind_of(w: &Retired) -> Option<OpKind> {
+pub fn kind_of_retired(w: &Retired) -> Option<OpKind> {
     match w.insn {
         Insn::Load { .. } => Some(OpKind::Load),
         Insn::Lr { .. } => Some(OpKind::Load),
@@ -52,7 +52,7 @@ fn is_of_kind(insns: &[Retired], o: &Op) -> bool {
     match insn_of(insns, o) {
         None => false,
         Some(w) => {
-            kind_of(&w) == Some(o.kind)
+            kind_of_retired(&w) == Some(o.kind)
                 && is_lowest(o.mask, o.name.part)
                 && if is_store(&w) {
                     is_plain(o)
