@@ -21,7 +21,7 @@ use Rattle.matching.specs.Searches.{earliest}
 use Rattle.matching.specs.Settings.{config_of}
 use Rattle.matching.specs.Tags.{is_early}
 use Rattle.matching.specs.Reports.{early}
-use Rattle.matching.specs.Stores.{stores, store_under}
+use Rattle.matching.specs.Stores.{retired_stores, store_under}
 use Rattle.matching.specs.PartFaults.{is_known, fate_at, part_fault_in, data_fault_of, torn_store_fault_of}
 use Rattle.matching.specs.PartFaults.{merge_fault_of}
 use Rattle.matching.specs.PartFaults.{insert_range_fault, bypass_range_fault, second_bypass_fault}
@@ -49,7 +49,7 @@ under_one true t g s o u e = refl
 under_one false t g s o u e = e
 
 -- the store under a tag
-under_same : (before : List Message) (h t : ℕ) (ss : List Stored)
+pub under_same : (before : List Message) (h t : ℕ) (ss : List Stored)
     → tracked_under t (map (tracked_at before h) ss) ≡ option_map (tracked_at before h) (store_under t ss)
 under_same before h t [] = refl
 under_same before h t (s ∷ ss) =
@@ -84,13 +84,13 @@ fault_same image before head (body.Poke poke) e = refl
 fault_same image before head (body.Read piece) e = refl
 fault_same image before head (body.Insert piece) e =
     ap (λ (f : Option Fault). insert_range_fault image piece or_else f)
-    (part_same before head.hart head.tag piece (stores image before head.hart))
+    (part_same before head.hart head.tag piece (retired_stores image before head.hart))
 fault_same image before head (body.Write write) e =
     ap (λ (held : List Held). merge_fault_of held write) (inserts_of_line before head.hart write.line)
 fault_same image before head (body.Bypass piece) e =
     ap (λ (f : Option Fault). bypass_range_fault image piece or_else f)
     (bypass_by (is_early before head) (second_bypass_fault head.tag (bypass_at before head)) _ _
-    (part_same before head.hart head.tag piece (stores image before head.hart)))
+    (part_same before head.hart head.tag piece (retired_stores image before head.hart)))
 fault_same image before head (body.Retire retire) e = refl
 fault_same image before head body.Squash e = refl
 fault_same image before head body.End e = absurd (e refl)
@@ -121,7 +121,7 @@ left_of before h (Some s) = ap (unwritten_fault_at h s) (left_same (fate_at befo
 pub left_fault_same : (image : Loaded) (before : List Message) (h : ℕ)
     → left_fault h (table_at image before h) ≡ unwritten_fault_of image before h
 left_fault_same image before h =
-    ap (left_fault_in h) (earliest_same before h (stores image before h)) ∙ left_of before h _
+    ap (left_fault_in h) (earliest_same before h (retired_stores image before h)) ∙ left_of before h _
 
 -- the stores of one hart more
 pub below_more : (image : Loaded) (before : List Message) (n : ℕ)

@@ -10,14 +10,14 @@ use Rattle.msg_frames.specs.declared.message.Message.{Message}
 use Rattle.msg_frames.specs.Frames.{Fits}
 use Rattle.elf_image.specs.Images.{Loaded}
 use Rattle.rv_step.specs.declared.plan.Config.{Config}
-use Rattle.matching.specs.declared.reports.Report.{Report}
+use Rattle.matching.specs.declared.reports.OpenReport.{OpenReport}
 use Rattle.matching.specs.declared.hart_table.HartTable.{HartTable}
 use Rattle.matching.specs.declared.tables.Matching.{Matching}
 use Rattle.matching.specs.Settings.{number_after, open_of, config_in, config_of}
 use Rattle.matching.specs.Tags.{last_tag}
 use Rattle.matching.specs.Reports.{early, early_in}
 use Rattle.matching.specs.Matching.{match_fault, body_fault_of}
-use Rattle.matching.specs.Tables.{Table, table_at, table_after, table_fault, kept_of, early_put}
+use Rattle.matching.specs.Tables.{Table, table_at, table_after, table_fault, table_in, early_put}
 use Rattle.matching.specs.Tables.{early_dropped, Stands, IsSame, Takes}
 use Rattle.matching.proofs.Steps.{table_step}
 use Rattle.matching.proofs.Same.{fault_same}
@@ -39,7 +39,7 @@ first_table : (xs : List HartTable) → length xs ≡ 16 → HartTable
 first_table [] e = absurd (omega (arith, e))
 first_table (x ∷ xs) e = x
 
-early_same : (before : List Message) (old : List Report) (head : Head) (b : Body)
+early_same : (before : List Message) (old : List OpenReport) (head : Head) (b : Body)
     → early_dropped (early_put (number_after before) (last_tag before head.hart) old head b) head b
     ≡ early_in before old head b
 early_same before old head (body.Open info) = refl
@@ -52,7 +52,7 @@ early_same before old head (body.Retire retire) = refl
 early_same before old head body.Squash = refl
 early_same before old head body.End = refl
 
-kept_same : (image : Loaded) (before : List Message) (m : Message) (h n : ℕ) (config : Config) (es : List Report)
+kept_same : (image : Loaded) (before : List Message) (m : Message) (h n : ℕ) (config : Config) (es : List OpenReport)
     (t : Table)
     → config ≡ config_of before → es ≡ early before → n ≡ number_after before → t ≡ table_at image before h
     → cond (m.head.hart == h) (table_after image config es n t m.head m.body) t
@@ -61,7 +61,8 @@ kept_same : (image : Loaded) (before : List Message) (m : Message) (h n : ℕ) (
     m.body) (table_at image before h)
 kept_same image before m h n config es t e f g k =
     ap (λ (c : Config). cond (m.head.hart == h) (table_after image c es n t m.head m.body) t) e
-    ∙ ap (λ (r : List Report). cond (m.head.hart == h) (table_after image (config_of before) r n t m.head m.body) t) f
+    ∙ ap (λ (r : List OpenReport). cond (m.head.hart == h) (table_after image
+    (config_of before) r n t m.head m.body) t) f
     ∙ ap (λ (i : ℕ). cond (m.head.hart == h) (table_after image (config_of before) (early before) i t m.head m.body) t)
     g
     ∙ ap (λ (u : Table). cond (m.head.hart == h)
@@ -75,7 +76,7 @@ pub takes_stands : (image : Loaded) (old new : Matching) (before : List Message)
     → Takes image n m old new → Stands image new (m ∷ before)
 takes_stands image old new before m n s sixteen low fits fine number k =
     let other : HartTable = first_table old.harts.items sixteen in
-    let own : kept_of old m.head.hart other ≡ table_at image before m.head.hart =
+    let own : table_in old m.head.hart other ≡ table_at image before m.head.hart =
     s.each m.head.hart other low in record {
       clean = (s.clean, fits, fine);
       known = k.known ∙ ap (λ (h : ℕ). option_map_or (λ (info : OpenInfo). info.harts) (open_of m.body) h) s.known;
@@ -86,14 +87,15 @@ takes_stands image old new before m n s sixteen low fits fine number k =
           k.early other
           ∙ ap (λ (t : Table). early_dropped (early_put n t.last (reverse old.early.items) m.head m.body) m.head m.body)
           own
-          ∙ ap (λ (r : List Report). early_dropped (early_put n (last_tag before m.head.hart) r m.head m.body) m.head
+          ∙ ap (λ (r : List OpenReport). early_dropped (early_put n
+          (last_tag before m.head.hart) r m.head m.body) m.head
           m.body) s.early
           ∙ ap (λ (i : ℕ). early_dropped (early_put i (last_tag before m.head.hart) (early before) m.head m.body) m.head
           m.body) number
           ∙ early_same before (early before) m.head m.body;
       each = λ h d l.
           k.each h d l
-          ∙ kept_same image before m h n old.config (reverse old.early.items) (kept_of old h d) s.config s.early number
+          ∙ kept_same image before m h n old.config (reverse old.early.items) (table_in old h d) s.config s.early number
           (s.each h d l)
           ∙ sym (table_step image before m h s.clean fine);
     }
@@ -102,10 +104,10 @@ takes_stands image old new before m n s sixteen low fits fine number k =
 pub fault_stands : (image : Loaded) (old : Matching) (before : List Message) (head : Head) (b : Body)
     (other : HartTable) → Stands image old before
     → head.hart < 16 → (b ≡ body.End → ⊥)
-    → table_fault image old.config (reverse old.early.items) (kept_of old head.hart other) head b
+    → table_fault image old.config (reverse old.early.items) (table_in old head.hart other) head b
     ≡ body_fault_of image before head b
 fault_stands image old before head b other s low e =
-    ap (λ (c : Config). table_fault image c (reverse old.early.items) (kept_of old head.hart other) head b) s.config
-    ∙ ap (λ (r : List Report). table_fault image (config_of before) r (kept_of old head.hart other) head b) s.early
+    ap (λ (c : Config). table_fault image c (reverse old.early.items) (table_in old head.hart other) head b) s.config
+    ∙ ap (λ (r : List OpenReport). table_fault image (config_of before) r (table_in old head.hart other) head b) s.early
     ∙ ap (λ (t : Table). table_fault image (config_of before) (early before) t head b) (s.each head.hart other low)
     ∙ fault_same image before head b e

@@ -16,7 +16,7 @@ use Rattle.msg_frames.specs.declared.message.Body.TheVariants as body
 use Rattle.msg_frames.specs.declared.message.Message.{Message}
 use Rattle.elf_image.specs.Images.{Loaded}
 use Rattle.verdict_report.specs.declared.fault.Fault.TheVariants as fault
-use Rattle.matching.specs.declared.reports.Report.{Report}
+use Rattle.matching.specs.declared.reports.OpenReport.{OpenReport}
 use Rattle.matching.specs.declared.stores.Fate.{Fate}
 use Rattle.matching.specs.declared.stores.Fate.TheVariants.{Nothing, Waiting, Done}
 use Rattle.matching.specs.declared.stores.Held.{Held}
@@ -24,12 +24,12 @@ use Rattle.matching.specs.declared.stores.Stored.{Stored}
 use Rattle.matching.specs.declared.stores.Tracked.{Tracked}
 use Rattle.matching.specs.Searches.{with_new}
 use Rattle.matching.specs.Settings.{number_after, config_of}
-use Rattle.matching.specs.Pieces.{has, line_of}
+use Rattle.matching.specs.Pieces.{has, line_start}
 use Rattle.matching.specs.Tags.{is_younger, last_tag, is_early}
-use Rattle.matching.specs.Reports.{report_of, early}
+use Rattle.matching.specs.Reports.{open_report_of, early}
 use Rattle.matching.specs.Fates.{fate, drained}
 use Rattle.matching.specs.Runs.{Run, run_poked, doing_at, step_at}
-use Rattle.matching.specs.Stores.{stores, new_store}
+use Rattle.matching.specs.Stores.{retired_stores, new_store}
 use Rattle.matching.specs.Compares.{tag_fault_of}
 use Rattle.matching.specs.PartFaults.{fate_at}
 use Rattle.matching.specs.Matching.{IsClean, match_fault}
@@ -53,14 +53,14 @@ on_poke : (b : Bool) (t : Table) (poke : Poke)
 on_poke true t poke = refl
 on_poke false t poke = refl
 
-on_read : (b : Bool) (t : Table) (r : Report)
+on_read : (b : Bool) (t : Table) (r : OpenReport)
     → record t { live = if b then r ∷ t.live else t.live } ≡ cond b (record t { live = r ∷ t.live }) t
 on_read true t r = refl
 on_read false t r = refl
 
 on_squash : (b : Bool) (t : Table) (tag : ℕ) →
-    record t { live = if b then filter (λ (r : Report). nat_lt r.tag tag) t.live else t.live }
-    ≡ cond b (record t { live = filter (λ (r : Report). nat_lt r.tag tag) t.live }) t
+    record t { live = if b then filter (λ (r : OpenReport). nat_lt r.tag tag) t.live else t.live }
+    ≡ cond b (record t { live = filter (λ (r : OpenReport). nat_lt r.tag tag) t.live }) t
 on_squash true t tag = refl
 on_squash false t tag = refl
 
@@ -81,7 +81,7 @@ on_part true new tag piece g ss =
 on_part false new tag piece g ss = refl
 
 abbrev line_fates : Bool → ℕ → ℕ → ℕ → (Stored → ℕ → Fate) → Stored → ℕ → Fate
-line_fates b time n line g s k = if b && (line == line_of (s.piece.addr + k)) then drained time n (g s k) else g s k
+line_fates b time n line g s k = if b && (line == line_start (s.piece.addr + k)) then drained time n (g s k) else g s k
 
 same_line : (time n line : ℕ) (g : Stored → ℕ → Fate) (s : Stored) →
     tracked (line_fates true time n line g s) s ≡ with_line time n line (tracked (g s) s)
@@ -136,10 +136,10 @@ new_untouched g None ss f = refl
 new_untouched g (Some s) ss f =
     ap (λ (h : ℕ → Fate). tracked h s ∷ with_fates g ss) (fun_ext {f = g s} {g = λ k. Nothing} (f s refl))
 
-abbrev retire_with : (run' : Run) (last' : Option ℕ) (live' : List Report) (t : Table) (ss : List Tracked) → Table
+abbrev retire_with : (run' : Run) (last' : Option ℕ) (live' : List OpenReport) (t : Table) (ss : List Tracked) → Table
 retire_with run' last' live' t ss = record { run = run'; last = last'; live = live'; inserts = t.inserts; stores = ss }
 
-on_retire : (b : Bool) (t : Table) (run' : Run) (last' : Option ℕ) (live' : List Report) (ss ss' : List Tracked)
+on_retire : (b : Bool) (t : Table) (run' : Run) (last' : Option ℕ) (live' : List OpenReport) (ss ss' : List Tracked)
     → ss ≡ cond b ss' t.stores
     → record {
       run = if b then run' else t.run;
@@ -197,26 +197,27 @@ by_body image before m h c f (body.Open info) e = same (m.head.hart == h) where
   same false = refl
 by_body image before m h c f (body.Poke poke) e = on_poke (m.head.hart == h) (table_at image before h) poke
 by_body image before m h c f (body.Read piece) e =
-    on_read (m.head.hart == h) (table_at image before h) (report_of (number_after before) m.head piece)
+    on_read (m.head.hart == h) (table_at image before h) (open_report_of (number_after before) m.head piece)
 by_body image before m h c f (body.Insert piece) e =
     both (m.head.hart == h) (table_at image before h) _
     (held_of (number_after before) m.head piece ∷ (table_at image before h).inserts) _ _ refl
     (on_part (m.head.hart == h) (Waiting (number_after before)) m.head.tag piece (fate_at before h)
-    (stores image before h))
+    (retired_stores image before h))
 by_body image before m h c f (body.Write write) e =
     both (m.head.hart == h) (table_at image before h) _
     (filter (λ (e : Held). not (is_in write.line e)) (table_at image before h).inserts) _ _ refl
-    (on_line (m.head.hart == h) m.head.time (number_after before) write.line (fate_at before h) (stores image before h))
+    (on_line (m.head.hart == h) m.head.time (number_after before) write.line (fate_at before h)
+    (retired_stores image before h))
 by_body image before m h c f (body.Bypass piece) e =
     on_bypass (is_early before m.head) (m.head.hart == h) (table_at image before h)
     (Done (record { time = m.head.time; message = number_after before; insert = number_after before })) m.head.tag piece
-    (fate_at before h) (stores image before h) refl
+    (fate_at before h) (retired_stores image before h) refl
     (λ b. ap (λ (n : ℕ). is_younger (last_tag before n) m.head.tag) (sym (eqb-true m.head.hart h b)))
 by_body image before m h c f (body.Retire retire) e =
     on_retire (m.head.hart == h) (table_at image before h) _ _ _ _ _
     (new_stores (m.head.hart == h) (fate_at before h)
     (new_store (doing_at image before h) m.head.tag (step_at image before h m.head retire).effect.store)
-    (stores image before h)
+    (retired_stores image before h)
     (fresh_store image before m retire h c f e))
 by_body image before m h c f body.Squash e = on_squash (m.head.hart == h) (table_at image before h) m.head.tag
 by_body image before m h c f body.End e = same (m.head.hart == h) where

@@ -9,7 +9,7 @@ use Rattle.msg_frames.specs.declared.message.Body.TheVariants as body
 use Rattle.msg_frames.specs.declared.message.Message.{Message}
 use Rattle.matching.specs.declared.stores.Held.{Held}
 use Rattle.matching.specs.Settings.{number_after}
-use Rattle.matching.specs.Pieces.{line_of}
+use Rattle.matching.specs.Pieces.{line_start}
 use Rattle.matching.specs.Fates.{waiting, waiting_in}
 use Rattle.matching.specs.Tables.{is_in, inserts, inserts_in}
 
@@ -51,7 +51,7 @@ apart_by line l true xs ws e f =
     (filter_none (is_in line) (is_in line) xs)
 apart_by line l false xs ws e f =
     filter_kept (is_in l) (λ (h : Held). not (is_in line h))
-    (λ (h : Held) t. other_line line l (line_of h.piece.addr) e t) xs ∙ f
+    (λ (h : Held) t. other_line line l (line_start h.piece.addr) e t) xs ∙ f
 
 on_insert : (b c : Bool) (e : Held) (l : ℕ) (xs ws : List Held) → is_in l e ≡ c → filter (is_in l) xs ≡ ws
     → filter (is_in l) (cond b (e ∷ xs) xs) ≡ cond (b && c) (e ∷ ws) ws
@@ -70,7 +70,7 @@ on_message n xs ws head (body.Open info) h l e = e
 on_message n xs ws head (body.Poke poke) h l e = e
 on_message n xs ws head (body.Read piece) h l e = e
 on_message n xs ws head (body.Insert piece) h l e =
-    on_insert (head.hart == h) (line_of piece.addr == l) _ l xs ws refl e
+    on_insert (head.hart == h) (line_start piece.addr == l) _ l xs ws refl e
 on_message n xs ws head (body.Write write) h l e = on_write (head.hart == h) write.line l xs ws e
 on_message n xs ws head (body.Bypass piece) h l e = e
 on_message n xs ws head (body.Retire retire) h l e = e

@@ -19,11 +19,11 @@ use Rattle.matching.specs.declared.stores.Fate.TheVariants.{Nothing}
 use Rattle.matching.specs.declared.stores.Stored.{Stored}
 use Rattle.matching.specs.Searches.{with_new}
 use Rattle.matching.specs.Settings.{number_after}
-use Rattle.matching.specs.Pieces.{has, line_of}
+use Rattle.matching.specs.Pieces.{has, line_start}
 use Rattle.matching.specs.Tags.{is_of, last_in, last_tag, is_younger, is_early}
 use Rattle.matching.specs.Fates.{fate, fate_in, drained}
 use Rattle.matching.specs.Runs.{doing_at, step_at}
-use Rattle.matching.specs.Stores.{stores, stores_in, store_under, new_store}
+use Rattle.matching.specs.Stores.{retired_stores, stores_in, store_under, new_store}
 use Rattle.matching.specs.Compares.{tag_fault_of}
 use Rattle.matching.specs.PartFaults.{part_fault_in, fate_at, insert_range_fault}
 use Rattle.matching.specs.Matching.{IsClean, match_fault, stream_fault_of, body_fault_of, part_fault_of}
@@ -91,24 +91,27 @@ retire_tag image before m retire e f =
 
 old_retired : (image : Loaded) (before : List Message) (h t : ℕ) (s : Stored) (head : Head) (retire : Retire) (b : Bool)
     → (head.hart == h) ≡ b → tag_fault_of (last_tag before head.hart) head.tag ≡ None
-    → ((old : Stored) → store_under t (stores image before h) ≡ Some old → is_younger (last_tag before h) t ≡ false)
+    → ((old : Stored) → store_under t (retired_stores image before h) ≡ Some old
+    → is_younger (last_tag before h) t ≡ false)
     → store_under t (cond b
     (with_new (new_store (doing_at image before h) head.tag (step_at image before h head retire).effect.store)
-    (stores image before h)) (stores image before h)) ≡ Some s
+    (retired_stores image before h)) (retired_stores image before h)) ≡ Some s
     → is_younger (cond b (Some head.tag) (last_tag before h)) t ≡ false
 old_retired image before h t s head retire true e f g r =
     let same : head.hart ≡ h = eqb-true head.hart h e in
     let f' : tag_fault_of (last_tag before h) head.tag ≡ None =
     subst (λ (k : ℕ). tag_fault_of (last_tag before k) head.tag ≡ None) same f in
     found_new head.tag t (new_store (doing_at image before h) head.tag
-    (step_at image before h head retire).effect.store) (stores image before h) s (last_tag before h)
+    (step_at image before h head retire).effect.store) (retired_stores image before h) s (last_tag before h)
     (new_store_tag (doing_at image before h) head.tag (step_at image before h head retire).effect.store) f' g r
 old_retired image before h t s head retire false e f g r = g s r
 
 known_by : (image : Loaded) (before : List Message) (m : Message) (h t : ℕ) (s : Stored)
     → match_fault image before m ≡ None
-    → ((old : Stored) → store_under t (stores image before h) ≡ Some old → is_younger (last_tag before h) t ≡ false)
-    → (b : Body) → m.body ≡ b → store_under t (stores_in image before (stores image before h) m.head b h) ≡ Some s
+    → ((old : Stored) → store_under t (retired_stores image before h) ≡ Some old
+    → is_younger (last_tag before h) t ≡ false)
+    → (b : Body) → m.body ≡ b → store_under t (stores_in image before (retired_stores image before h) m.head b h)
+    ≡ Some s
     → is_younger (last_in (last_tag before h) m.head b h) t ≡ false
 known_by image before m h t s c rec (body.Open info) f r = rec s r
 known_by image before m h t s c rec (body.Poke poke) f r = rec s r
@@ -123,7 +126,7 @@ known_by image before m h t s c rec body.End f r = rec s r
 
 -- a store that is known has retired
 pub known_retired : (image : Loaded) (before : List Message) (h t : ℕ) (s : Stored) → IsClean image before
-    → store_under t (stores image before h) ≡ Some s → is_younger (last_tag before h) t ≡ false
+    → store_under t (retired_stores image before h) ≡ Some s → is_younger (last_tag before h) t ≡ false
 known_retired image [] h t s c e = absurd (cc)
 known_retired image (m ∷ before) h t s c e =
     known_by image before m h t s c.2 (λ (old : Stored) r. known_retired image before h t old c.0 r) m.body refl e
@@ -168,7 +171,8 @@ no_part : (image : Loaded) (before : List Message) (m : Message) (h t : ℕ) (pi
     → is_of m.head h t ≡ true → ⊥
 no_part image before m h t piece c f e y o =
     let p = of_one m.head h t o in
-    let g = part_known (fate_at before m.head.hart) piece (store_under m.head.tag (stores image before m.head.hart))
+    let g = part_known (fate_at before m.head.hart) piece (store_under m.head.tag
+    (retired_stores image before m.head.hart))
     (insert_part image before m piece e f) in
     let k : is_younger (last_tag before m.head.hart) m.head.tag ≡ false =
     known_retired image before m.head.hart m.head.tag g.0 c g.1 in
@@ -200,7 +204,7 @@ none_by image before m h t x c f rec (body.Read piece) e y = rec y
 none_by image before m h t x c f rec (body.Insert piece) e y =
     on_part (is_of m.head h t) (has piece x) _ _ (no_part image before m h t piece c f e y) (rec y)
 none_by image before m h t x c f rec (body.Write write) e y =
-    on_line ((m.head.hart == h) && (write.line == line_of x)) m.head.time (number_after before) _ (rec y)
+    on_line ((m.head.hart == h) && (write.line == line_start x)) m.head.time (number_after before) _ (rec y)
 none_by image before m h t x c f rec (body.Bypass piece) e y =
     on_early (is_early before m.head) _ _ (rec y)
     (λ g. on_part (is_of m.head h t) (has piece x) _ _ (no_bypass before m.head h t g y) (rec y))

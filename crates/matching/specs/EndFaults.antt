@@ -7,13 +7,13 @@ use Rattle.elf_image.specs.Images.{Loaded}
 use Rattle.tandem_base.specs.FirstFault.{◌or_else◌}
 use Rattle.verdict_report.specs.declared.fault.Fault.{Fault}
 use Rattle.verdict_report.specs.declared.fault.Fault.TheVariants as fault
-use Rattle.matching.specs.declared.reports.Report.{Report}
+use Rattle.matching.specs.declared.reports.OpenReport.{OpenReport}
 use Rattle.matching.specs.declared.stores.Fate.{Fate}
 use Rattle.matching.specs.declared.stores.Stored.{Stored}
 use Rattle.matching.specs.Searches.{first_below, earliest}
 use Rattle.matching.specs.Pieces.{address}
 use Rattle.matching.specs.Fates.{is_done}
-use Rattle.matching.specs.Stores.{stores}
+use Rattle.matching.specs.Stores.{retired_stores}
 use Rattle.matching.specs.PartFaults.{fate_at}
 
 -- byte k of a store isn't performed; the fates are those of its bytes
@@ -46,7 +46,7 @@ unwritten_fault_in fates h (Some s) = unwritten_fault_at h s (first_left (fates 
 -- a hart's earliest store that isn't performed
 abbrev pub unwritten_fault_of : Loaded → List Message → ℕ → Option Fault
 unwritten_fault_of image before h =
-    unwritten_fault_in (fate_at before h) h (earliest_left (fate_at before h) (stores image before h))
+    unwritten_fault_in (fate_at before h) h (earliest_left (fate_at before h) (retired_stores image before h))
 
 -- that of the lowest of the n harts from 0 on that has one
 unfoldable pub unwritten_below : Loaded → List Message → ℕ → Option Fault
@@ -54,20 +54,20 @@ unwritten_below image before zero = None
 unwritten_below image before (suc n) = unwritten_below image before n or_else unwritten_fault_of image before n
 
 -- a Bypass comes before another: by hart, then by tag
-abbrev pub comes_first : Report → Report → Bool
+abbrev pub comes_first : OpenReport → OpenReport → Bool
 comes_first a b = nat_lt a.hart b.hart || ((a.hart == b.hart) && nat_lt a.tag b.tag)
 
 -- the first of the two
-abbrev pub first_of : Report → Option Report → Report
+abbrev pub first_of : OpenReport → Option OpenReport → OpenReport
 first_of r None = r
 first_of r (Some least) = if comes_first r least then r else least
 
 -- the early Bypass of the lowest hart, then of the lowest tag
-abbrev pub first_bypass : List Report → Option Report
+abbrev pub first_bypass : List OpenReport → Option OpenReport
 first_bypass [] = None
 first_bypass (r ∷ rs) = Some (first_of r (first_bypass rs))
 
 -- an early Bypass that has not retired
-abbrev pub unretired_fault_of : Option Report → Option Fault
+abbrev pub unretired_fault_of : Option OpenReport → Option Fault
 unretired_fault_of None = None
 unretired_fault_of (Some r) = Some (fault.Unretired (record { hart = r.hart; tag = r.tag }))

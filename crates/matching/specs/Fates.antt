@@ -11,7 +11,7 @@ use Rattle.matching.specs.declared.stores.Fate.{Fate}
 use Rattle.matching.specs.declared.stores.Fate.TheVariants.{Nothing, Waiting, Done}
 use Rattle.matching.specs.declared.stores.Held.{Held}
 use Rattle.matching.specs.Settings.{number_after}
-use Rattle.matching.specs.Pieces.{has, line_of}
+use Rattle.matching.specs.Pieces.{has, line_start}
 use Rattle.matching.specs.Tags.{is_of, is_early}
 
 -- the Inserts that wait in line l of hart h, after message n
@@ -20,7 +20,7 @@ waiting_in n old head (body.Open info) h l = old
 waiting_in n old head (body.Poke poke) h l = old
 waiting_in n old head (body.Read piece) h l = old
 waiting_in n old head (body.Insert piece) h l =
-    if (head.hart == h) && (line_of piece.addr == l)
+    if (head.hart == h) && (line_start piece.addr == l)
     then record { number = n; tag = head.tag; piece = piece } ∷ old
     else old
 waiting_in n old head (body.Write write) h l = if (head.hart == h) && (write.line == l) then [] else old
@@ -48,7 +48,7 @@ fate_in before old head (body.Read piece) h t x = old
 fate_in before old head (body.Insert piece) h t x =
     if is_of head h t && has piece x then Waiting (number_after before) else old
 fate_in before old head (body.Write write) h t x =
-    if (head.hart == h) && (write.line == line_of x) then drained head.time (number_after before) old else old
+    if (head.hart == h) && (write.line == line_start x) then drained head.time (number_after before) old else old
 fate_in before old head (body.Bypass piece) h t x =
     if is_early before head then old
     else if is_of head h t && has piece x

@@ -15,8 +15,8 @@ abbrev pub byte_in : Piece → ℕ → Option ℕ
 byte_in piece x = if has piece x then Some (slice_index piece.bytes (x - piece.addr)) else None
 
 -- the first address of the line of x
-abbrev pub line_of : ℕ → ℕ
-line_of x = x / 64 * 64
+abbrev pub line_start : ℕ → ℕ
+line_start x = x / 64 * 64
 
 -- the address k bytes behind another, modulo 2^64
 abbrev pub address : ℕ → ℕ → ℕ

@@ -14,7 +14,7 @@ use Rattle.verdict_report.specs.declared.fault.Fault.{Fault}
 use Rattle.verdict_report.specs.declared.fault.Fault.TheVariants as fault
 use Rattle.verdict_report.specs.declared.fault.RdWant.{RdWant}
 use Rattle.verdict_report.specs.declared.fault.RdWant.TheVariants as want
-use Rattle.matching.specs.declared.reports.Report.{Report}
+use Rattle.matching.specs.declared.reports.OpenReport.{OpenReport}
 use Rattle.matching.specs.declared.run.Clocks.{Clocks}
 use Rattle.matching.specs.declared.run.Pair.{Pair}
 use Rattle.matching.specs.Searches.{first_below}
@@ -42,7 +42,7 @@ is_bypassed (sc i addr len) piece = is_over addr len piece
 is_bypassed (amo i addr len) piece = is_over addr len piece
 
 -- an early Bypass of the hart under a lower tag, or under this one where the instruction may not have it
-abbrev pub is_stray : Doing → ℕ → ℕ → Report → Bool
+abbrev pub is_stray : Doing → ℕ → ℕ → OpenReport → Bool
 is_stray doing h t r =
     (r.hart == h) && (nat_lt r.tag t || ((r.tag == t) && not (is_bypassed doing r.piece)))
 
@@ -52,7 +52,7 @@ lower t None = t
 lower t (Some least) = if nat_lt t least then t else least
 
 -- the lowest tag of such a Bypass
-abbrev pub lowest_stray : Doing → ℕ → ℕ → List Report → Option ℕ
+abbrev pub lowest_stray : Doing → ℕ → ℕ → List OpenReport → Option ℕ
 lowest_stray doing h t [] = None
 lowest_stray doing h t (r ∷ rs) =
     if is_stray doing h t r then Some (lower r.tag (lowest_stray doing h t rs)) else lowest_stray doing h t rs
@@ -65,18 +65,18 @@ stray_fault_of (Some bypass) = Some (fault.StrayBypass bypass)
 -- ---- the Reads of a load
 
 -- byte k of a load has no Read that counts
-abbrev pub is_missing : List Report → ℕ → ℕ → ℕ → Bool
+abbrev pub is_missing : List OpenReport → ℕ → ℕ → ℕ → Bool
 is_missing live t addr k = not (is_some (counting live t (addr + k)))
 
 -- the same Read, or none both times
-abbrev pub same_read : Option Report → Option Report → Bool
+abbrev pub same_read : Option OpenReport → Option OpenReport → Bool
 same_read None None = true
 same_read None (Some b) = false
 same_read (Some a) None = false
 same_read (Some a) (Some b) = a.number == b.number
 
 -- byte k of a load counts from another Read than its first byte
-abbrev pub is_torn : List Report → ℕ → ℕ → ℕ → Bool
+abbrev pub is_torn : List OpenReport → ℕ → ℕ → ℕ → Bool
 is_torn live t addr k = not (same_read (counting live t addr) (counting live t (addr + k)))
 
 -- the first byte that has no Read
@@ -90,15 +90,15 @@ torn_fault_in addr None = None
 torn_fault_in addr (Some k) = Some (fault.TornRead (addr + k))
 
 -- each of these bytes has a Read
-abbrev pub reads_missing : List Report → ℕ → ℕ → ℕ → Option Fault
+abbrev pub reads_missing : List OpenReport → ℕ → ℕ → ℕ → Option Fault
 reads_missing live t addr len = missing_fault_in addr (first_below (is_missing live t addr) len)
 
 -- these bytes have one Read
-abbrev pub reads_torn : List Report → ℕ → ℕ → ℕ → Option Fault
+abbrev pub reads_torn : List OpenReport → ℕ → ℕ → ℕ → Option Fault
 reads_torn live t addr len = torn_fault_in addr (first_below (is_torn live t addr) len)
 
 -- each byte of a load, an LR or an AMO has a Read
-abbrev pub missing_fault_of : List Report → ℕ → Doing → Option Fault
+abbrev pub missing_fault_of : List OpenReport → ℕ → Doing → Option Fault
 missing_fault_of live t (trap cause value) = None
 missing_fault_of live t (plain i) = None
 missing_fault_of live t (counter i) = None
@@ -109,7 +109,7 @@ missing_fault_of live t (sc i addr len) = None
 missing_fault_of live t (amo i addr len) = reads_missing live t addr len
 
 -- the bytes of an aligned load, of an LR or of an AMO have one Read
-abbrev pub torn_fault_of : List Report → ℕ → Doing → Option Fault
+abbrev pub torn_fault_of : List OpenReport → ℕ → Doing → Option Fault
 torn_fault_of live t (trap cause value) = None
 torn_fault_of live t (plain i) = None
 torn_fault_of live t (counter i) = None
@@ -122,19 +122,19 @@ torn_fault_of live t (amo i addr len) = reads_torn live t addr len
 -- ---- the Bypass of an AMO or SC
 
 -- the instruction is an AMO
-abbrev pub is_amo : Doing → Bool
-is_amo (trap cause value) = false
-is_amo (plain i) = false
-is_amo (counter i) = false
-is_amo (load i addr len) = false
-is_amo (store i addr len) = false
-is_amo (lr i addr len) = false
-is_amo (sc i addr len) = false
-is_amo (amo i addr len) = true
+abbrev pub does_amo : Doing → Bool
+does_amo (trap cause value) = false
+does_amo (plain i) = false
+does_amo (counter i) = false
+does_amo (load i addr len) = false
+does_amo (store i addr len) = false
+does_amo (lr i addr len) = false
+does_amo (sc i addr len) = false
+does_amo (amo i addr len) = true
 
 -- an AMO has an early Bypass
-abbrev pub bypass_fault_of : Option Report → Doing → Option Fault
-bypass_fault_of bypass doing = if is_amo doing && not (is_some bypass) then Some fault.MissingBypass else None
+abbrev pub bypass_fault_of : Option OpenReport → Doing → Option Fault
+bypass_fault_of bypass doing = if does_amo doing && not (is_some bypass) then Some fault.MissingBypass else None
 
 -- the byte that differs
 abbrev pub amo_fault_in : ℕ → Piece → Piece → Option ℕ → Option Fault
@@ -143,14 +143,14 @@ amo_fault_in addr result got (Some k) =
     Some (fault.AmoData (addr + k) (byte_in result (addr + k)) (byte_in got (addr + k)))
 
 -- the first of these bytes that isn't the result's
-abbrev pub amo_fault : ℕ → ℕ → Option Piece → Option Report → Option Fault
+abbrev pub amo_fault : ℕ → ℕ → Option Piece → Option OpenReport → Option Fault
 amo_fault addr len None bypass = None
 amo_fault addr len (Some result) None = None
 amo_fault addr len (Some result) (Some bypass) =
     amo_fault_in addr result bypass.piece (first_other (byte_in result) (byte_in bypass.piece) addr len)
 
 -- the Bypass of an AMO or SC has the bytes that the instruction stores
-unfoldable pub amo_fault_of : Doing → Option Piece → Option Report → Option Fault
+unfoldable pub amo_fault_of : Doing → Option Piece → Option OpenReport → Option Fault
 amo_fault_of (trap cause value) result bypass = None
 amo_fault_of (plain i) result bypass = None
 amo_fault_of (counter i) result bypass = None
@@ -204,7 +204,7 @@ pair_fault_of pair stored (amo i addr len) = None
 -- ---- the order
 
 -- The faults of what an instruction did, in their order.
-unfoldable pub effect_fault_in : Run → Retire → Doing → Effect → Option Report → Option Fault
+unfoldable pub effect_fault_in : Run → Retire → Doing → Effect → Option OpenReport → Option Fault
 effect_fault_in run retire doing effect bypass =
     next_fault_of effect.next retire.next
     or_else register_fault_of doing (is_some bypass) run.clocks effect.rd retire.rd
@@ -214,7 +214,8 @@ effect_fault_in run retire doing effect bypass =
 
 -- The faults of a Retire but that of its tag, in their order: the hart is so before it, its live Reads and all early
 -- Bypasses are these, and the model has this plan, this effect and this Bypass.
-unfoldable pub retire_fault_in : Run → List Report → List Report → Head → Retire → PlanOf → Effect → Option Report
+unfoldable pub retire_fault_in : Run → List OpenReport → List OpenReport → Head → Retire → PlanOf → Effect
+    → Option OpenReport
     → Option Fault
 retire_fault_in run live early head retire plan effect bypass =
     stray_fault_of (lowest_stray plan.doing head.hart head.tag early)

@@ -14,13 +14,13 @@ use Rattle.rv_decode.specs.declared.instruction.Insn.TheVariants as insn
 use Rattle.rv_step.specs.declared.plan.Config.{Config}
 use Rattle.rv_step.specs.declared.effect.Effect.{Effect}
 use Rattle.rv_step.specs.declared.effect.Outside.{Outside}
-use Rattle.rv_step.specs.Harts.{HartState, at_start, poked}
+use Rattle.rv_step.specs.Harts.{HartState, at_start, hart_poked}
 use Rattle.rv_step.specs.Steps.{Doing, Done, trap, plain, counter, load, store, lr, sc, amo, finished}
 use Rattle.rv_step.specs.Plans.{PlanOf, plan_of}
 use Rattle.tandem_base.specs.CsrNumbers as csr
 use Rattle.matching.specs.declared.run.Clocks.{Clocks}
 use Rattle.matching.specs.declared.run.Pair.{Pair}
-use Rattle.matching.specs.declared.reports.Report.{Report}
+use Rattle.matching.specs.declared.reports.OpenReport.{OpenReport}
 use Rattle.matching.specs.Settings.{config_of}
 use Rattle.matching.specs.Reports.{live, early, early_of, bytes_counted}
 
@@ -38,7 +38,7 @@ started number entry =
 -- ---- what the model takes from the reports
 
 -- the bytes of the Reads that count, for an instruction that loads; 0 where no Read counts
-abbrev pub loaded_in : List Report → ℕ → Doing → Option (List ℕ)
+abbrev pub loaded_in : List OpenReport → ℕ → Doing → Option (List ℕ)
 loaded_in live t (trap cause value) = None
 loaded_in live t (plain i) = None
 loaded_in live t (counter i) = None
@@ -54,7 +54,7 @@ reported_value None = 0
 reported_value (Some rd) = rd.value
 
 -- the loaded bytes; an SC stored exactly where it has an early Bypass; the reported value
-abbrev pub outside_of : List Report → Option Report → ℕ → Retire → Doing → Outside
+abbrev pub outside_of : List OpenReport → Option OpenReport → ℕ → Retire → Doing → Outside
 outside_of live bypass t retire doing =
     record {
       load = loaded_in live t doing;
@@ -63,7 +63,7 @@ outside_of live bypass t retire doing =
     }
 
 -- the step of a hart that does this
-abbrev pub done_of : Run → List Report → Option Report → ℕ → Retire → Doing → Done
+abbrev pub done_of : Run → List OpenReport → Option OpenReport → ℕ → Retire → Doing → Done
 done_of run live bypass t retire doing = finished run.hart (outside_of live bypass t retire doing) doing
 
 -- ---- counters
@@ -111,10 +111,10 @@ pair_after (amo i addr len) pair = pair
 
 -- the hart after a Poke
 abbrev pub run_poked : Run → Poke → Run
-run_poked run poke = record run { hart = poked run.hart poke.target poke.value }
+run_poked run poke = record run { hart = hart_poked run.hart poke.target poke.value }
 
 -- the hart after a Retire
-abbrev pub run_retired : Run → List Report → Option Report → ℕ → Retire → Doing → Run
+abbrev pub run_retired : Run → List OpenReport → Option OpenReport → ℕ → Retire → Doing → Run
 run_retired run live bypass t retire doing =
     record {
       hart = (done_of run live bypass t retire doing).hart;
@@ -158,7 +158,7 @@ abbrev pub doing_at : Loaded → List Message → ℕ → Doing
 doing_at image before h = doing_in image (config_of before) (run_of image before h)
 
 -- the early Bypass of a message's instruction, if it has one
-abbrev pub bypass_at : List Message → Head → Option Report
+abbrev pub bypass_at : List Message → Head → Option OpenReport
 bypass_at before head = early_of (early before) head.hart head.tag
 
 -- the step of hart h at its Retire after these messages

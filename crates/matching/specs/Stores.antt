@@ -44,9 +44,9 @@ stores_in image before old head body.Squash h = old
 stores_in image before old head body.End h = old
 
 -- the plain stores of hart h that retired, the newest first
-abbrev pub stores : Loaded → List Message → ℕ → List Stored
-stores image [] h = []
-stores image (m ∷ before) h = stores_in image before (stores image before h) m.head m.body h
+abbrev pub retired_stores : Loaded → List Message → ℕ → List Stored
+retired_stores image [] h = []
+retired_stores image (m ∷ before) h = stores_in image before (retired_stores image before h) m.head m.body h
 
 -- that under a tag
 abbrev pub store_under : ℕ → List Stored → Option Stored

@@ -10,7 +10,7 @@ ghost use Rattle.matching.specs.PartFaults as Parts;
 ghost use Rattle.matching.specs.Tables as Tables;
 
 use super::pieces::{byte_at, first_different, fits_line, fits_space};
-use super::reports::Report;
+use super::reports::OpenReport;
 use super::stores::{Held, Tracked, waiting_byte};
 use elf_image::Image;
 use msg_frames::{LineWrite, Piece};
@@ -161,7 +161,7 @@ pub fn check_part(piece: &Piece, found: &Option<Tracked>) -> Result<(), Fault>
 }
 
 /// An instruction has at most one early Bypass.
-pub fn check_second(tag: u64, bypass: &Option<Report>) -> Result<(), Fault>
+pub fn check_second(tag: u64, bypass: &Option<OpenReport>) -> Result<(), Fault>
     ensures { result ≡ passed (Parts.second_bypass_fault tag bypass.now) }
 {
     match bypass {

@@ -5,7 +5,7 @@ ghost use Rattle.std.specs.Prelude.{reverse, OnErr, OnOk, if◌then◌else◌};
 ghost use Rattle.std.specs.List.{filter};
 ghost use Rattle.elf_image.specs.Images.{loaded_of};
 ghost use Rattle.msg_frames.specs.Frames.{Fits};
-ghost use Rattle.rv_step.specs.Plans.{doing_seen, plan_seen};
+ghost use Rattle.rv_step.specs.Plans.{doing_seen, plan_of, plan_seen};
 ghost use Rattle.tandem_base.specs.FirstFault.{passed, ◌or_else◌};
 ghost use Rattle.matching.specs.Tags as Tags;
 ghost use Rattle.matching.specs.Runs as Runs;
@@ -21,7 +21,7 @@ use super::checks::{
 use super::compare::{
     check_csrs, check_next, check_pc, check_rd, check_tag, check_trap, check_word,
 };
-use super::reports::{Report, early_of, keep_above, keep_below, report_from};
+use super::reports::{OpenReport, early_of, keep_above, keep_below, report_from};
 use super::retire::{
     check_amo, check_bypass, check_missing, check_pair, check_stray, check_torn, loaded, rd_want,
 };
@@ -45,7 +45,7 @@ pub struct HartTable {
     pub last: Option<u64>,
     pub clocks: Clocks,
     pub pair: Option<Pair>,
-    pub live: Vec<Report>,
+    pub live: Vec<OpenReport>,
     pub inserts: Vec<Held>,
     pub stores: Vec<Tracked>,
 }
@@ -108,7 +108,7 @@ impl HartTable {
     fn check_bypass(
         &self,
         image: &Image,
-        early: &[Report],
+        early: &[OpenReport],
         head: &Head,
         piece: &Piece,
     ) -> Result<(), Fault>
@@ -124,7 +124,13 @@ impl HartTable {
     }
 
     /// What the model takes from the reports.
-    fn outside(&self, bypass: &Option<Report>, tag: u64, retire: &Retire, what: &What) -> Outside
+    fn outside(
+        &self,
+        bypass: &Option<OpenReport>,
+        tag: u64,
+        retire: &Retire,
+        what: &What,
+    ) -> Outside
         ensures { result
             ≡ Runs.outside_of (reverse self.now.live.items) bypass.now tag retire.now (doing_seen what.now) }
     {
@@ -133,6 +139,31 @@ impl HartTable {
             stored: bypass.is_some(),
             reported: retire.rd.map_or(0, |rd| rd.value),
         }
+    }
+
+    /// What the hart's next instruction is to do.
+    pub fn plan(&self, image: &Image, config: &Config) -> Plan
+        ensures { plan_seen result ≡ plan_of (Tables.table_of self.now).run.hart (loaded_of image.now) config.now }
+    {
+        self.hart.plan(image, config)
+    }
+
+    /// What the instruction of a Retire does, as the model has it.
+    pub fn effect(
+        &self,
+        image: &Image,
+        config: &Config,
+        early: &[OpenReport],
+        head: &Head,
+        retire: &Retire,
+    ) -> Effect
+        ensures { result ≡ Tables.effect_in (loaded_of image.now) config.now (reverse early.now)
+            (Tables.table_of self.now) head.now retire.now }
+    {
+        let plan = self.hart.plan(image, config);
+        let bypass = early_of(early, head.hart, head.tag);
+        let outside = self.outside(&bypass, head.tag, retire, &plan.what);
+        self.hart.effect(&plan, &outside)
     }
 
     /// The register is what is wanted of it.
@@ -157,7 +188,7 @@ impl HartTable {
         retire: &Retire,
         what: &What,
         effect: &Effect,
-        bypass: &Option<Report>,
+        bypass: &Option<OpenReport>,
     ) -> Result<(), Fault>
         ensures { result ≡ passed (effect_fault_in (Tables.table_of self.now).run retire.now (doing_seen what.now)
             effect.now bypass.now) }
@@ -173,12 +204,12 @@ impl HartTable {
     #[tactic(auto, unfolding(crate::specs::RetireFaults::retire_fault_in))]
     fn check_reported(
         &self,
-        early: &[Report],
+        early: &[OpenReport],
         head: &Head,
         retire: &Retire,
         plan: &Plan,
         effect: &Effect,
-        bypass: &Option<Report>,
+        bypass: &Option<OpenReport>,
     ) -> Result<(), Fault>
         ensures { result ≡ passed (retire_fault_in (Tables.table_of self.now).run (reverse self.now.live.items)
             (reverse early.now) head.now retire.now (plan_seen plan.now) effect.now bypass.now) }
@@ -198,7 +229,7 @@ impl HartTable {
         &self,
         image: &Image,
         config: &Config,
-        early: &[Report],
+        early: &[OpenReport],
         head: &Head,
         retire: &Retire,
     ) -> Result<(), Fault>
@@ -218,7 +249,7 @@ impl HartTable {
         &self,
         image: &Image,
         config: &Config,
-        early: &[Report],
+        early: &[OpenReport],
         message: &Message,
     ) -> Result<(), Fault>
         requires { Fits message.now }
@@ -287,7 +318,7 @@ impl HartTable {
         &mut self,
         image: &Image,
         config: &Config,
-        early: &[Report],
+        early: &[OpenReport],
         head: &Head,
         retire: &Retire,
     ) -> Result<(), AllocError>
@@ -313,7 +344,7 @@ impl HartTable {
         &mut self,
         image: &Image,
         config: &Config,
-        early: &[Report],
+        early: &[OpenReport],
         n: u64,
         message: &Message,
     ) -> Result<(), AllocError>

@@ -1,7 +1,7 @@
 //! Bytes of memory, and where they differ.
 
 ghost use Rattle.std.specs.Prelude.{◌≡◌, ◌+◌, ◌≤◌, ◌<◌, ◌^◌, length, IfSome};
-ghost use Rattle.matching.specs.Pieces.{has, byte_in, line_of, first_other};
+ghost use Rattle.matching.specs.Pieces.{has, byte_in, line_start, first_other};
 ghost use Rattle.matching.specs.PartFaults.{is_in_space, is_in_line, is_within};
 
 use msg_frames::Piece;
@@ -27,7 +27,7 @@ pub fn byte_at(piece: &Piece, x: u64) -> Option<u8>
 
 /// The first address of the line of x.
 pub fn line_at(x: u128) -> u128
-    ensures { result ≡ line_of x }
+    ensures { result ≡ line_start x }
 {
     x / 64 * 64
 }

@@ -14,7 +14,7 @@ use tandem_base::{Bytes8, Extent};
 
 /// A Read or an early Bypass.
 #[derive(Clone, Copy, Debug, PartialEq, Eq)]
-pub struct Report {
+pub struct OpenReport {
     /// The number of the hart, from 0.
     pub hart: u8,
     /// The tag of the instruction.
@@ -28,10 +28,10 @@ pub struct Report {
 }
 
 /// The report of message n.
-pub(crate) fn report_from(n: u64, head: &Head, piece: &Piece) -> Report
-    ensures { result ≡ Reports.report_of n head.now piece.now }
+pub(crate) fn report_from(n: u64, head: &Head, piece: &Piece) -> OpenReport
+    ensures { result ≡ Reports.open_report_of n head.now piece.now }
 {
-    Report {
+    OpenReport {
         hart: head.hart,
         tag: head.tag,
         time: head.time,
@@ -41,10 +41,10 @@ pub(crate) fn report_from(n: u64, head: &Head, piece: &Piece) -> Report
 }
 
 /// The early Bypass of an instruction, if it has one.
-pub(crate) fn early_of(early: &[Report], hart: u8, tag: u64) -> Option<Report>
+pub fn early_of(early: &[OpenReport], hart: u8, tag: u64) -> Option<OpenReport>
     ensures { result ≡ Reports.early_of (reverse early.now) hart tag }
 {
-    let mut found: Option<Report> = None;
+    let mut found: Option<OpenReport> = None;
     for report in early {
         if report.hart == hart && report.tag == tag {
             found = Some(*report);
@@ -54,11 +54,11 @@ pub(crate) fn early_of(early: &[Report], hart: u8, tag: u64) -> Option<Report>
 }
 
 /// The Read that counts for byte x of an instruction.
-fn counting(live: &[Report], tag: u64, x: u64) -> Option<Report>
+pub fn counting(live: &[OpenReport], tag: u64, x: u64) -> Option<OpenReport>
     ensures value { result ≡ Reports.counting (reverse live.now) tag x }
     ensures covers { IfSome result (λ r. has r.piece x ≡ true) }
 {
-    let mut found: Option<Report> = None;
+    let mut found: Option<OpenReport> = None;
     for report in live {
         if report.tag == tag && has_byte(&report.piece, u128::from(x)) {
             found = Some(*report);
@@ -68,7 +68,7 @@ fn counting(live: &[Report], tag: u64, x: u64) -> Option<Report>
 }
 
 /// How far behind its address is the first byte of a load that has no Read.
-pub(crate) fn first_missing(live: &[Report], tag: u64, extent: &Extent) -> Option<u8>
+pub(crate) fn first_missing(live: &[OpenReport], tag: u64, extent: &Extent) -> Option<u8>
     ensures bound { IfSome result (λ k. k < extent.now.len) }
     ensures value { result
         ≡ first_below (RetireFaults.is_missing (reverse live.now) tag extent.now.addr) extent.now.len }
@@ -83,7 +83,7 @@ pub(crate) fn first_missing(live: &[Report], tag: u64, extent: &Extent) -> Optio
 }
 
 /// Whether two Reads are the same, or both are none.
-fn is_same_read(a: &Option<Report>, b: &Option<Report>) -> bool
+fn is_same_read(a: &Option<OpenReport>, b: &Option<OpenReport>) -> bool
     ensures { result ≡ RetireFaults.same_read a.now b.now }
 {
     match (a, b) {
@@ -94,7 +94,7 @@ fn is_same_read(a: &Option<Report>, b: &Option<Report>) -> bool
 }
 
 /// How far behind its address is the first byte of a load that has another Read than its first.
-pub(crate) fn first_torn(live: &[Report], tag: u64, extent: &Extent) -> Option<u8>
+pub(crate) fn first_torn(live: &[OpenReport], tag: u64, extent: &Extent) -> Option<u8>
     ensures bound { IfSome result (λ k. k < extent.now.len) }
     ensures value { result
         ≡ first_below (RetireFaults.is_torn (reverse live.now) tag extent.now.addr) extent.now.len }
@@ -111,7 +111,7 @@ pub(crate) fn first_torn(live: &[Report], tag: u64, extent: &Extent) -> Option<u
 }
 
 /// The byte of the Read that counts, 0 where there is none.
-fn byte_read(live: &[Report], tag: u64, x: u64) -> u8
+fn byte_read(live: &[OpenReport], tag: u64, x: u64) -> u8
     ensures { result ≡ Reports.byte_counted x (Reports.counting (reverse live.now) tag x) }
 {
     match counting(live, tag, x) {
@@ -121,7 +121,7 @@ fn byte_read(live: &[Report], tag: u64, x: u64) -> u8
 }
 
 /// The bytes that an instruction loads, 0 where no Read counts.
-pub(crate) fn bytes_read(live: &[Report], tag: u64, extent: &Extent) -> Bytes8
+pub fn bytes_read(live: &[OpenReport], tag: u64, extent: &Extent) -> Bytes8
     ensures { result ≡ Reports.bytes_counted (reverse live.now) tag extent.now.addr extent.now.len }
 {
     let mut buf: [u8; 8] = [0; 8];
@@ -135,21 +135,21 @@ pub(crate) fn bytes_read(live: &[Report], tag: u64, extent: &Extent) -> Bytes8
 }
 
 /// Drops the Reads up to a tag.
-pub(crate) fn keep_above(live: &mut Vec<Report>, tag: u64)
+pub(crate) fn keep_above(live: &mut Vec<OpenReport>, tag: u64)
     ensures { reverse live.new.items ≡ filter (λ r. nat_lt tag r.tag) (reverse live.old.items) }
 {
     live.retain(|r| tag < r.tag);
 }
 
 /// Drops the Reads from a tag on.
-pub(crate) fn keep_below(live: &mut Vec<Report>, tag: u64)
+pub(crate) fn keep_below(live: &mut Vec<OpenReport>, tag: u64)
     ensures { reverse live.new.items ≡ filter (λ r. nat_lt r.tag tag) (reverse live.old.items) }
 {
     live.retain(|r| r.tag < tag);
 }
 
 /// Drops the early Bypass of an instruction.
-pub(crate) fn drop_report(early: &mut Vec<Report>, hart: u8, tag: u64)
+pub(crate) fn drop_report(early: &mut Vec<OpenReport>, hart: u8, tag: u64)
     ensures { reverse early.new.items
         ≡ filter (λ r. not (Reports.is_report hart tag r)) (reverse early.old.items) }
 {
@@ -157,14 +157,14 @@ pub(crate) fn drop_report(early: &mut Vec<Report>, hart: u8, tag: u64)
 }
 
 /// Whether a Bypass comes before another: by hart, then by tag.
-fn is_first(a: &Report, b: &Report) -> bool
+fn is_first(a: &OpenReport, b: &OpenReport) -> bool
     ensures { result ≡ EndFaults.comes_first a.now b.now }
 {
     a.hart < b.hart || (a.hart == b.hart && a.tag < b.tag)
 }
 
 /// The first of the two.
-fn earlier_of(report: &Report, least: &Option<Report>) -> Report
+fn earlier_of(report: &OpenReport, least: &Option<OpenReport>) -> OpenReport
     ensures { result ≡ EndFaults.first_of report.now least.now }
 {
     match least {
@@ -174,10 +174,10 @@ fn earlier_of(report: &Report, least: &Option<Report>) -> Report
 }
 
 /// The early Bypass of the lowest hart, then of the lowest tag.
-pub(crate) fn first_early(early: &[Report]) -> Option<Report>
+pub(crate) fn first_early(early: &[OpenReport]) -> Option<OpenReport>
     ensures { result ≡ EndFaults.first_bypass (reverse early.now) }
 {
-    let mut least: Option<Report> = None;
+    let mut least: Option<OpenReport> = None;
     for report in early {
         least = Some(earlier_of(report, &least));
     }

@@ -8,7 +8,7 @@ ghost use Rattle.matching.specs.Pieces.{byte_in, first_other};
 ghost use Rattle.matching.specs.RetireFaults as Faults;
 
 use super::pieces::{byte_at, first_different};
-use super::reports::{Report, bytes_read, first_missing, first_torn};
+use super::reports::{OpenReport, bytes_read, first_missing, first_torn};
 use super::run::{Clocks, Pair};
 use msg_frames::{Piece, RdValue};
 use rv_step::What;
@@ -16,7 +16,7 @@ use tandem_base::{Bytes8, Extent};
 use verdict_report::{Fault, RdWant};
 
 /// The bytes that an instruction loads, if it loads.
-pub fn loaded(live: &[Report], tag: u64, what: &What) -> Option<Bytes8>
+pub fn loaded(live: &[OpenReport], tag: u64, what: &What) -> Option<Bytes8>
     ensures { result ≡ loaded_in (reverse live.now) tag (doing_seen what.now) }
 {
     match what {
@@ -45,7 +45,7 @@ fn is_bypassed(what: &What, piece: &Piece) -> bool
 }
 
 /// Whether an early Bypass of the hart belongs to no AMO or SC.
-fn is_stray(what: &What, hart: u8, tag: u64, report: &Report) -> bool
+fn is_stray(what: &What, hart: u8, tag: u64, report: &OpenReport) -> bool
     ensures { result ≡ Faults.is_stray (doing_seen what.now) hart tag report.now }
 {
     report.hart == hart
@@ -63,7 +63,7 @@ fn lower_tag(tag: u64, least: Option<u64>) -> u64
 }
 
 /// The lowest tag of such a Bypass.
-fn lowest_stray(what: &What, hart: u8, tag: u64, early: &[Report]) -> Option<u64>
+fn lowest_stray(what: &What, hart: u8, tag: u64, early: &[OpenReport]) -> Option<u64>
     ensures { result ≡ Faults.lowest_stray (doing_seen what.now) hart tag (reverse early.now) }
 {
     let mut least: Option<u64> = None;
@@ -76,7 +76,7 @@ fn lowest_stray(what: &What, hart: u8, tag: u64, early: &[Report]) -> Option<u64
 }
 
 /// No early Bypass of the hart is left behind, or belongs to an instruction that may have none.
-pub fn check_stray(what: &What, hart: u8, tag: u64, early: &[Report]) -> Result<(), Fault>
+pub fn check_stray(what: &What, hart: u8, tag: u64, early: &[OpenReport]) -> Result<(), Fault>
     ensures { result
         ≡ passed (Faults.stray_fault_of (Faults.lowest_stray (doing_seen what.now) hart tag (reverse early.now))) }
 {
@@ -87,7 +87,7 @@ pub fn check_stray(what: &What, hart: u8, tag: u64, early: &[Report]) -> Result<
 }
 
 /// Each of these bytes has a Read.
-fn check_present(live: &[Report], tag: u64, extent: &Extent) -> Result<(), Fault>
+fn check_present(live: &[OpenReport], tag: u64, extent: &Extent) -> Result<(), Fault>
     ensures { result ≡ passed (Faults.reads_missing (reverse live.now) tag extent.now.addr extent.now.len) }
 {
     match first_missing(live, tag, extent) {
@@ -99,7 +99,7 @@ fn check_present(live: &[Report], tag: u64, extent: &Extent) -> Result<(), Fault
 }
 
 /// These bytes have one Read.
-fn check_one(live: &[Report], tag: u64, extent: &Extent) -> Result<(), Fault>
+fn check_one(live: &[OpenReport], tag: u64, extent: &Extent) -> Result<(), Fault>
     ensures { result ≡ passed (Faults.reads_torn (reverse live.now) tag extent.now.addr extent.now.len) }
 {
     match first_torn(live, tag, extent) {
@@ -111,7 +111,7 @@ fn check_one(live: &[Report], tag: u64, extent: &Extent) -> Result<(), Fault>
 }
 
 /// Each byte of a load, an LR or an AMO has a Read.
-pub fn check_missing(live: &[Report], tag: u64, what: &What) -> Result<(), Fault>
+pub fn check_missing(live: &[OpenReport], tag: u64, what: &What) -> Result<(), Fault>
     ensures { result ≡ passed (Faults.missing_fault_of (reverse live.now) tag (doing_seen what.now)) }
 {
     match what {
@@ -123,7 +123,7 @@ pub fn check_missing(live: &[Report], tag: u64, what: &What) -> Result<(), Fault
 }
 
 /// The bytes of an aligned load, of an LR or of an AMO have one Read.
-pub fn check_torn(live: &[Report], tag: u64, what: &What) -> Result<(), Fault>
+pub fn check_torn(live: &[OpenReport], tag: u64, what: &What) -> Result<(), Fault>
     ensures { result ≡ passed (Faults.torn_fault_of (reverse live.now) tag (doing_seen what.now)) }
 {
     match what {
@@ -136,7 +136,7 @@ pub fn check_torn(live: &[Report], tag: u64, what: &What) -> Result<(), Fault>
 }
 
 /// An AMO has an early Bypass.
-pub fn check_bypass(bypass: &Option<Report>, what: &What) -> Result<(), Fault>
+pub fn check_bypass(bypass: &Option<OpenReport>, what: &What) -> Result<(), Fault>
     ensures { result ≡ passed (Faults.bypass_fault_of bypass.now (doing_seen what.now)) }
 {
     match what {
@@ -165,7 +165,11 @@ fn check_result(extent: &Extent, stored: &Piece, got: &Piece) -> Result<(), Faul
 
 /// The Bypass of an AMO or SC has the bytes that the instruction stores.
 #[tactic(auto, unfolding(crate::specs::RetireFaults::amo_fault_of))]
-pub fn check_amo(what: &What, stored: &Option<Piece>, bypass: &Option<Report>) -> Result<(), Fault>
+pub fn check_amo(
+    what: &What,
+    stored: &Option<Piece>,
+    bypass: &Option<OpenReport>,
+) -> Result<(), Fault>
     ensures { result ≡ passed (Faults.amo_fault_of (doing_seen what.now) stored.now bypass.now) }
 {
     match (what, stored, bypass) {

@@ -7,7 +7,7 @@ ghost use Rattle.std.specs.List.{filter};
 ghost use Rattle.std.specs.Option.{option_map};
 ghost use Rattle.rv_step.specs.Plans.{doing_seen};
 ghost use Rattle.matching.specs.Searches.{first_below, earliest, with_new};
-ghost use Rattle.matching.specs.Pieces.{has, line_of};
+ghost use Rattle.matching.specs.Pieces.{has, line_start};
 ghost use Rattle.matching.specs.Fates as Fates;
 ghost use Rattle.matching.specs.Stores.{new_store};
 ghost use Rattle.matching.specs.PartFaults.{is_again, is_known, byte_waiting};
@@ -150,7 +150,7 @@ impl Tracked {
     fn line_fate(&self, time: u64, n: u64, line: u64, k: u8) -> Fate
         requires { k < 8 }
         ensures { result
-            ≡ (if line == line_of (self.now.store.piece.addr + k) then Fates.drained time n
+            ≡ (if line == line_start (self.now.store.piece.addr + k) then Fates.drained time n
             (Tables.fate_in_store self.now k)
             else Tables.fate_in_store self.now k) }
     {
@@ -225,7 +225,7 @@ impl Tracked {
 }
 
 /// The store under a tag.
-pub(crate) fn store_under(stores: &[Tracked], tag: u64) -> Option<Tracked>
+pub fn store_under(stores: &[Tracked], tag: u64) -> Option<Tracked>
     ensures { result ≡ Tables.tracked_under tag (reverse stores.now) }
 {
     let mut found: Option<Tracked> = None;

@@ -4,10 +4,11 @@ ghost use Rattle.std.specs.Prelude.{◌≡◌, ◌≤◌, length};
 ghost use Rattle.matching.specs.Settings as Settings;
 
 use super::hart_table::{HartTable, starts};
-use super::reports::{Report, drop_report, first_early, report_from};
+use super::reports::{OpenReport, drop_report, first_early, report_from};
+use super::stores::Tracked;
 use elf_image::Image;
-use msg_frames::{Body, Head, Message};
-use rv_step::Config;
+use msg_frames::{Body, Head, Message, Retire};
+use rv_step::{Config, Effect, Plan};
 use std::alloc::{AllocError, Global};
 use tandem_base::Origin;
 use verdict_report::Fault;
@@ -20,7 +21,7 @@ pub struct Matching {
     known: u8,
     config: Config,
     time: u64,
-    early: Vec<Report>,
+    early: Vec<OpenReport>,
     harts: Vec<HartTable>,
     ghost few: { known ≤ 16 },
     ghost sixteen: { length harts.items ≡ 16 },
@@ -45,7 +46,7 @@ fn config_in_flags(flags: u8) -> Config
 
 impl Matching {
     ghost use Rattle.std.specs.Prelude.{◌≡◌, ◌+◌, ◌<◌, ℕ, List, [], ◌∷◌, reverse, true, IfOk};
-    ghost use Rattle.std.specs.Prelude.{Some, Ok, IfNone, OnSome, OnErr, OnOk};
+    ghost use Rattle.std.specs.Prelude.{None, Some, Ok, IfNone, OnSome, OnErr, OnOk};
     ghost use Rattle.std.specs.Option.{option_map_or};
     ghost use Rattle.elf_image.specs.Images.{Loaded, loaded_of};
     ghost use Rattle.msg_frames.specs.Frames.{Fits};
@@ -59,7 +60,7 @@ impl Matching {
     ghost use Rattle.matching.specs.EndFaults.{unwritten_below, first_bypass, unretired_fault_of};
     ghost use Rattle.matching.specs.declared.hart_table.HartTable.{HartTable};
     ghost use Rattle.matching.specs.declared.tables.Matching.{Matching};
-    ghost use Rattle.matching.specs.Tables.{Stands, IsSame, TakesHart, TakesReport, Takes, kept_of, early_dropped};
+    ghost use Rattle.matching.specs.Tables.{Stands, IsSame, TakesHart, TakesReport, Takes, table_in, early_dropped};
 
     /// The tables before the first message.
     pub fn new(alloc: Global, image: &Image) -> Result<Matching, AllocError>
@@ -217,7 +218,7 @@ impl Matching {
     /// Whether a Bypass is early: its instruction has not retired.
     fn is_early(&self, head: &Head) -> bool
         requires { head.now.hart < 16 }
-        ensures { (other : HartTable) → result ≡ is_younger (kept_of self.now head.now.hart other).last head.now.tag }
+        ensures { (other : HartTable) → result ≡ is_younger (table_in self.now head.now.hart other).last head.now.tag }
     {
         self.harts[usize::from(head.hart)].is_early(head.tag)
     }
@@ -270,6 +271,34 @@ impl Matching {
         Ok(())
     }
 
+    /// What is first wrong with message `number`, None where nothing is.
+    pub fn first_fault(&self, image: &Image, number: u64, message: &Message) -> Option<Fault>
+        requires { Fits message.now }
+        ensures known { IfNone result (message.now.head.hart < 16) }
+        ensures fault { (before : List Message) → Stands (loaded_of image.now) self.now before →
+            number ≡ number_after before → result ≡ match_fault (loaded_of image.now) before message.now }
+    {
+        match self.check(image, number, message) {
+            Ok(()) => None,
+            Err(fault) => Some(fault),
+        }
+    }
+
+    /// Takes message `number`, of a hart below 16, which has no fault. Where memory is refused nothing
+    /// has changed.
+    pub fn put(&mut self, image: &Image, number: u64, message: &Message) -> Result<(), AllocError>
+        requires known { message.now.head.hart < 16 }
+        requires fits { Fits message.now }
+        ensures taken { (before : List Message) → Stands (loaded_of image.now) self.old before →
+            number ≡ number_after before → match_fault (loaded_of image.now) before message.now ≡ None →
+            OnOk result (Stands (loaded_of image.now) self.new (message.now ∷ before)) }
+        ensures kept { (before : List Message) → Stands (loaded_of image.now) self.old before →
+            OnErr result (Stands (loaded_of image.now) self.new before) }
+    {
+        self.apply(image, number, message)?;
+        Ok(())
+    }
+
     /// Takes message `number`, or says what is first wrong with it. After a fault, and where memory is
     /// refused, nothing has changed.
     pub fn take(
@@ -279,6 +308,7 @@ impl Matching {
         message: &Message,
     ) -> Result<Option<Fault>, AllocError>
         requires { Fits message.now }
+        ensures known { IfOk result (λ fault. IfNone fault (message.now.head.hart < 16)) }
         ensures fault { (before : List Message) → Stands (loaded_of image.now) self.old before →
             number ≡ number_after before →
             IfOk result (λ fault. fault ≡ match_fault (loaded_of image.now) before message.now) }
@@ -299,5 +329,61 @@ impl Matching {
         }
         self.apply(image, number, message)?;
         Ok(None)
+    }
+}
+
+impl Matching {
+    ghost use Rattle.std.specs.Prelude.{◌≡◌, ◌<◌, List, map, reverse};
+    ghost use Rattle.elf_image.specs.Images.{Loaded, loaded_of};
+    ghost use Rattle.msg_frames.specs.declared.message.Message.{Message};
+    ghost use Rattle.rv_step.specs.Plans.{plan_seen};
+    ghost use Rattle.matching.specs.Reports as Reports;
+    ghost use Rattle.matching.specs.Runs.{plan_at, effect_at};
+    ghost use Rattle.matching.specs.Stores.{retired_stores};
+    ghost use Rattle.matching.specs.Tables.{Stands, tracked_at};
+
+    /// What the next instruction of a hart is to do.
+    pub fn plan(&self, image: &Image, hart: u8) -> Plan
+        requires { hart < 16 }
+        ensures { (before : List Message) → Stands (loaded_of image.now) self.now before →
+            plan_seen result ≡ plan_at (loaded_of image.now) before hart }
+    {
+        self.harts[usize::from(hart)].plan(image, &self.config)
+    }
+
+    /// What the instruction of a Retire does, as the model has it.
+    pub fn effect(&self, image: &Image, head: &Head, retire: &Retire) -> Effect
+        requires { head.now.hart < 16 }
+        ensures { (before : List Message) → Stands (loaded_of image.now) self.now before →
+            result ≡ effect_at (loaded_of image.now) before head.now retire.now }
+    {
+        self.harts[usize::from(head.hart)].effect(image, &self.config, &self.early, head, retire)
+    }
+
+    /// The live Reads of a hart, in the order in which they came.
+    pub fn live(&self, hart: u8) -> &[OpenReport]
+        requires { hart < 16 }
+        ensures { (image : Loaded) (before : List Message) → Stands image self.now before →
+            reverse result.now ≡ Reports.live before hart }
+    {
+        self.harts[usize::from(hart)].live.as_slice()
+    }
+
+    /// The early Bypasses of all harts, in the order in which they came.
+    pub fn early(&self) -> &[OpenReport]
+        ensures { (image : Loaded) (before : List Message) → Stands image self.now before →
+            reverse result.now ≡ Reports.early before }
+    {
+        self.early.as_slice()
+    }
+
+    /// The plain stores of a hart that retired, in the order in which they did, with the fate of each
+    /// of their bytes.
+    pub fn tracked_stores(&self, hart: u8) -> &[Tracked]
+        requires { hart < 16 }
+        ensures { (image : Loaded) (before : List Message) → Stands image self.now before →
+            reverse result.now ≡ map (tracked_at before hart) (retired_stores image before hart) }
+    {
+        self.harts[usize::from(hart)].stores.as_slice()
     }
 }

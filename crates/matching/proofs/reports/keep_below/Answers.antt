@@ -1,11 +1,11 @@
 use Rattle.std.proofs.Common.{rules, nat_lt, ap, reverse, ◌∙◌}
 use Rattle.std.proofs.lemmas.Fn.{filter_same}
-use Rattle.matching.specs.declared.reports.Report.{Report}
+use Rattle.matching.specs.declared.reports.OpenReport.{OpenReport}
 use Rattle.matching.proofs.Reversed.{filter-reverse}
 use Rattle.matching.proofs.reports.keep_below.Goals as goal
 
 pub returns : goal.returns
 returns c =
-    ap reverse (filter_same _ (λ (r : Report). nat_lt r.tag c.args.tag) _ (λ x b f r. search rules) _ _
+    ap reverse (filter_same _ (λ (r : OpenReport). nat_lt r.tag c.args.tag) _ (λ x b f r. search rules) _ _
     c.retain.ensures.filtered)
-    ∙ filter-reverse (λ (r : Report). nat_lt r.tag c.args.tag) c.args.live.now.items
+    ∙ filter-reverse (λ (r : OpenReport). nat_lt r.tag c.args.tag) c.args.live.now.items

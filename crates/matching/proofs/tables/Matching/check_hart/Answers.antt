@@ -4,7 +4,7 @@ use Rattle.elf_image.specs.Images.{loaded_of}
 use Rattle.tandem_base.specs.FirstFault.{passed}
 use Rattle.verdict_report.specs.declared.fault.Fault.{Fault}
 use Rattle.matching.specs.declared.hart_table.HartTable.{HartTable}
-use Rattle.matching.specs.declared.reports.Report.{Report}
+use Rattle.matching.specs.declared.reports.OpenReport.{OpenReport}
 use Rattle.matching.specs.Tables.{table_of, table_fault}
 use Rattle.matching.proofs.Standing.{fault_stands}
 use Rattle.matching.proofs.tables.Matching.check_hart.Goals as goal
@@ -16,7 +16,7 @@ returns c before s no_end =
     let m = c.args.message.now in
     let e : c.index.result.now ≡ slice_index_or old.harts.items m.head.hart c.index.result.now = search rules in
     c.check.ensures
-    ∙ ap (λ (r : List Report). passed
+    ∙ ap (λ (r : List OpenReport). passed
     (table_fault image old.config (reverse r) (table_of c.index.result.now) m.head m.body)) c.deref.ensures.value
     ∙ ap (λ (t : HartTable). passed (table_fault image old.config (reverse old.early.items) (table_of t) m.head m.body))
     e
