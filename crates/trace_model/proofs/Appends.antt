@@ -18,10 +18,10 @@ use Rattle.std.specs.List.{AllPairs}
 use Rattle.trace_model.specs.Groups.{Access}
 use Rattle.matching.specs.declared.stores.Fate.{Fate}
 use Rattle.matching.specs.declared.stores.Held.{Held}
-use Rattle.matching.specs.declared.reports.Report.{Report}
+use Rattle.matching.specs.declared.reports.OpenReport.{OpenReport}
 use Rattle.matching.specs.declared.stores.Fate.TheVariants.{Nothing, Waiting, Done}
 use Rattle.matching.specs.Settings.{number_after}
-use Rattle.matching.specs.Pieces.{has, line_of}
+use Rattle.matching.specs.Pieces.{has, line_start}
 use Rattle.matching.specs.Tags.{is_of, is_early}
 use Rattle.matching.specs.Reports.{early}
 use Rattle.matching.specs.Fates.{waiting, drained, fate, place_of}
@@ -148,7 +148,7 @@ module _ (image : Loaded) (before : List Message) (head : Head) where
         let s = steps (entries image before) (map early_op (early before)) (granule_of before) (places before) after a
         here (has piece) e good there stores m below head.hart head.tag hart tag in
         one_part head.hart head.tag old (new (body.Bypass piece)) here piece
-        (subst (λ (l : List Report). IsStep old (built (entries image before) after (map early_op l)
+        (subst (λ (l : List OpenReport). IsStep old (built (entries image before) after (map early_op l)
         (granule_of before)) head.hart head.tag here (has piece)) (sym still_early) s)
 
   abbrev drained_at : ℕ → Place
@@ -161,9 +161,9 @@ module _ (image : Loaded) (before : List Message) (head : Head) where
   write_places : (write : LineWrite) → AreFresh before → (h t x : ℕ) → placed_in head.time (number_after before)
       (waiting before head.hart write.line) (fate before h t x)
       ≡ places (record { head = head; body = body.Write write } ∷ before) h t x
-  write_places write clean h t x = at (fate before h t x) refl (eqb head.hart h && eqb write.line (line_of x)) refl
+  write_places write clean h t x = at (fate before h t x) refl (eqb head.hart h && eqb write.line (line_start x)) refl
     where
-      at : (f : Fate) → fate before h t x ≡ f → (c : Bool) → (eqb head.hart h && eqb write.line (line_of x)) ≡ c
+      at : (f : Fate) → fate before h t x ≡ f → (c : Bool) → (eqb head.hart h && eqb write.line (line_start x)) ≡ c
           → placed_in head.time (number_after before) (waiting before head.hart write.line) f
           ≡ place_of (cond c (drained head.time (number_after before) f) f)
       at Nothing q true r = refl
@@ -171,7 +171,7 @@ module _ (image : Loaded) (before : List Message) (head : Head) where
       at (Done p) q true r = refl
       at (Done p) q false r = refl
       at (Waiting j) q true r =
-          let s = and_parts (eqb head.hart h) (eqb write.line (line_of x)) r in
+          let s = and_parts (eqb head.hart h) (eqb write.line (line_start x)) r in
           let w = waits before clean h t x j q in
           let i : In w.0 (waiting before head.hart write.line) = subst (λ (z : ℕ). In w.0 (waiting before z write.line))
           (sym (eqb-true _ _ s.0)) (subst (λ (z : ℕ). In w.0 (waiting before h z)) (sym (eqb-true _ _ s.1)) w.1) in
@@ -183,8 +183,8 @@ module _ (image : Loaded) (before : List Message) (head : Head) where
           on true d =
               let e = numbered_in j (waiting before head.hart write.line) d in
               let w = waits before clean h t x j q in
-              let s = held_one before head.hart write.line h (line_of x) e.0 w.0 e.1 w.1 (e.2 ∙ sym w.2) in
-              let l : line_of x ≡ write.line = held_line before clean head.hart write.line e.0 x e.1
+              let s = held_one before head.hart write.line h (line_start x) e.0 w.0 e.1 w.1 (e.2 ∙ sym w.2) in
+              let l : line_start x ≡ write.line = held_line before clean head.hart write.line e.0 x e.1
               (subst (λ (z : Held). has z.piece x ≡ true) (sym s.1) w.4) in
               absurd (both_ways _ r (and_from _ _ (eq-eqb _ _ s.0) (eq-eqb _ _ (sym l))))
           on false d = refl

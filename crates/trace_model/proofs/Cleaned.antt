@@ -22,7 +22,7 @@ use Rattle.rv_step.specs.Harts.{HartState}
 use Rattle.rv_step.specs.Plans.{PlanOf, address_of, has_bytes}
 use Rattle.rv_step.specs.Steps as steps
 use Rattle.rv_step.specs.Steps.{Doing, trap, plain, counter, load, store, lr, sc, amo}
-use Rattle.matching.specs.declared.reports.Report.{Report}
+use Rattle.matching.specs.declared.reports.OpenReport.{OpenReport}
 use Rattle.matching.specs.declared.run.Pair.{Pair}
 use Rattle.matching.specs.declared.stores.Fate.{Fate}
 use Rattle.matching.specs.declared.stores.Fate.TheVariants.{Nothing, Waiting, Done}
@@ -31,10 +31,10 @@ use Rattle.matching.specs.Settings.{number_after, is_open, harts_of, last_time, 
 use Rattle.matching.specs.Searches.{latest, first_below, with_new}
 use Rattle.matching.specs.Pieces.{has}
 use Rattle.matching.specs.Tags.{last_tag, is_younger}
-use Rattle.matching.specs.Reports.{report_of, is_report, is_for, live_in, live, early, early_of, counting}
+use Rattle.matching.specs.Reports.{open_report_of, is_report, is_for, live_in, live, early, early_of, counting}
 use Rattle.matching.specs.Fates.{fate, is_fresh}
 use Rattle.matching.specs.Runs.{Run, outside_of, done_of, run_of, plan_at, doing_at, bypass_at, effect_at, step_at}
-use Rattle.matching.specs.Stores.{new_store, stores_in, stores, store_under}
+use Rattle.matching.specs.Stores.{new_store, stores_in, retired_stores, store_under}
 use Rattle.matching.specs.Compares.{tag_fault_of}
 use Rattle.matching.specs.PartFaults.{is_in_image, is_in_line, range_fault_of, insert_range_fault, bypass_range_fault}
 use Rattle.matching.specs.PartFaults.{is_within, is_again, is_known, part_fault_in, unknown_fault_of, data_fault_of}
@@ -66,7 +66,7 @@ use Rattle.trace_model.proofs.Suits.{SuitsBody, Suited}
 
 -- ---- several tests
 
-both_none : {X : Type 0} (a b : Option X) → (a or_else b) ≡ None → (a ≡ None) × (b ≡ None)
+pub both_none : {X : Type 0} (a b : Option X) → (a or_else b) ≡ None → (a ≡ None) × (b ≡ None)
 both_none None b e = (refl, e)
 both_none (Some f) b e = absurd (cc)
 
@@ -170,7 +170,7 @@ entry_more o es h s e = record {
 }
 
 -- where a plain store is done, its bytes are stored
-abbrev StoresPiece : Doing → Option Piece → Type 0
+abbrev pub StoresPiece : Doing → Option Piece → Type 0
 StoresPiece (trap cause value) o = Unit {0}
 StoresPiece (plain insn) o = Unit {0}
 StoresPiece (counter insn) o = Unit {0}
@@ -180,7 +180,7 @@ StoresPiece (lr insn addr len) o = Unit {0}
 StoresPiece (sc insn addr len) o = Unit {0}
 StoresPiece (amo insn addr len) o = Unit {0}
 
-module _ (rs bs : List Report) (head : Head) (put : List ℕ) (o : Option Piece) (es : List Entry) (old : List Stored)
+module _ (rs bs : List OpenReport) (head : Head) (put : List ℕ) (o : Option Piece) (es : List Entry) (old : List Stored)
     (s : Stored)
     (rec : In s old → HasEntry es head.hart s) where
   abbrev Has : Doing → Type 0
@@ -231,7 +231,7 @@ module _ (image : Loaded) (before : List Message) (head : Head) (retire : Retire
   planned_at : IsPlanned (run_of image before head.hart).hart (doing_at image before head.hart)
   planned_at = planned (run_of image before head.hart).hart image (config_of before)
 
-  stores_piece : StoresPiece (doing_at image before head.hart) (effect_at image before head retire).store
+  pub stores_piece : StoresPiece (doing_at image before head.hart) (effect_at image before head retire).store
   stores_piece = at (doing_at image before head.hart) refl planned_at
     where
       at : (d : Doing) → doing_at image before head.hart ≡ d → IsPlanned (run_of image before head.hart).hart d
@@ -254,34 +254,35 @@ module _ (image : Loaded) (before : List Message) (head : Head) (retire : Retire
             insn p.0.0))),
       )
 
-  has_new : (s : Stored) → (In s (stores image before head.hart) → HasEntry (entries image before) head.hart s)
+  has_new : (s : Stored) → (In s (retired_stores image before head.hart) → HasEntry (entries image before) head.hart s)
       → In s (with_new (new_store (doing_at image before head.hart) head.tag (effect_at image before head retire).store)
-      (stores image before head.hart))
+      (retired_stores image before head.hart))
       → HasEntry (with_entry (entry_in image before head (body.Retire retire)) (entries image before)) head.hart s
   has_new s rec i = new_entry (live before head.hart) (early before) head (stored_at image before head retire)
-      (effect_at image before head retire).store (entries image before) (stores image before head.hart) s rec
+      (effect_at image before head retire).store (entries image before) (retired_stores image before head.hart) s rec
       (doing_at image before head.hart) stores_piece i
 
 has_now : (image : Loaded) (before : List Message) (head : Head) (b : Body) (h : ℕ) (s : Stored)
-    → (In s (stores image before h) → HasEntry (entries image before) h s)
-    → In s (stores_in image before (stores image before h) head b h)
+    → (In s (retired_stores image before h) → HasEntry (entries image before) h s)
+    → In s (stores_in image before (retired_stores image before h) head b h)
     → HasEntry (with_entry (entry_in image before head b) (entries image before)) h s
 has_now image before head (body.Retire retire) h s rec i = at (eqb head.hart h) refl i
   where
     at : (c : Bool) → eqb head.hart h ≡ c
         → In s (cond c (with_new (new_store (doing_at image before h) head.tag
-        (step_at image before h head retire).effect.store) (stores image before h)) (stores image before h))
+        (step_at image before h head retire).effect.store) (retired_stores image before h))
+        (retired_stores image before h))
         → HasEntry (with_entry (entry_in image before head (body.Retire retire)) (entries image before)) h s
     at false q i = entry_more (entry_in image before head (body.Retire retire)) (entries image before) h s (rec i)
     at true q i = subst
-        (λ (z : ℕ). (In s (stores image before z) → HasEntry (entries image before) z s)
+        (λ (z : ℕ). (In s (retired_stores image before z) → HasEntry (entries image before) z s)
         → In s (with_new (new_store (doing_at image before z) head.tag
-        (step_at image before z head retire).effect.store) (stores image before z))
+        (step_at image before z head retire).effect.store) (retired_stores image before z))
         → HasEntry (with_entry (entry_in image before head (body.Retire retire)) (entries image before)) z s)
         (eqb-true head.hart h q) (has_new image before head retire s) rec i
 has_now image before head b h s rec i = entry_more (entry_in image before head b) (entries image before) h s (rec i)
 
-pub has_entry : (image : Loaded) (before : List Message) (h : ℕ) (s : Stored) → In s (stores image before h)
+pub has_entry : (image : Loaded) (before : List Message) (h : ℕ) (s : Stored) → In s (retired_stores image before h)
     → HasEntry (entries image before) h s
 has_entry image [] h s i = absurd i
 has_entry image (m ∷ before) h s i = has_now image before m.head m.body h s (has_entry image before h s) i
@@ -325,12 +326,13 @@ fresh_is (Waiting j) e = absurd (false≢true e)
 fresh_is (Done p) e = absurd (false≢true e)
 
 module _ (image : Loaded) (before : List Message) (head : Head) (piece : Piece)
-    (part : IsPartOfOne (fate_at before head.hart) piece (store_under head.tag (stores image before head.hart))) where
+    (part : IsPartOfOne (fate_at before head.hart) piece (store_under head.tag
+    (retired_stores image before head.hart))) where
   abbrev whole : Stored
   whole = part.whole
 
-  under : In whole (stores image before head.hart) × (eqb whole.tag head.tag ≡ true)
-  under = latest_passes (λ (s : Stored). eqb s.tag head.tag) (stores image before head.hart) whole part.is
+  under : In whole (retired_stores image before head.hart) × (eqb whole.tag head.tag ≡ true)
+  under = latest_passes (λ (s : Stored). eqb s.tag head.tag) (retired_stores image before head.hart) whole part.is
 
   tagged : whole.tag ≡ head.tag
   tagged = eqb-true whole.tag head.tag under.1
@@ -408,7 +410,8 @@ suits_insert : (image : Loaded) (before : List Message) (head : Head) (piece : P
 suits_insert image before head piece fits e =
     let p = both_none (insert_range_fault image piece) (part_fault_of image before head piece) e in
     let r = and_parts (is_in_image image piece) (is_in_line piece) (range_is _ p.0) in
-    let o = part_of_one (fate_at before head.hart) piece (store_under head.tag (stores image before head.hart)) p.1 in
+    let o = part_of_one (fate_at before head.hart) piece (store_under head.tag
+    (retired_stores image before head.hart)) p.1 in
     record {
       fresh = fresh_bytes image before head piece o;
       line = in_line piece fits.0 r.1;
@@ -425,7 +428,7 @@ suits_early image before head piece fits there e = record {
   first = none_latest (is_report head.hart head.tag) (early before) (none (bypass_at before head) e);
 }
   where
-    none : (o : Option Report) → second_bypass_fault head.tag o ≡ None → o ≡ None
+    none : (o : Option OpenReport) → second_bypass_fault head.tag o ≡ None → o ≡ None
     none None q = refl
     none (Some r) q = absurd (cc)
 
@@ -437,7 +440,8 @@ suits_bypass image before head piece fits e =
           (second_bypass_fault head.tag (bypass_at before head)) (part_fault_of image before head piece) ≡ None) young
           p.1)),
       λ plain.
-          let o = part_of_one (fate_at before head.hart) piece (store_under head.tag (stores image before head.hart))
+          let o = part_of_one (fate_at before head.hart) piece (store_under head.tag
+          (retired_stores image before head.hart))
           (subst (λ (b : Bool). cond b (second_bypass_fault head.tag (bypass_at before head))
           (part_fault_of image before head piece) ≡ None) plain p.1) in
           record {
@@ -456,22 +460,23 @@ stray_none : (o : Option ℕ) → stray_fault_of o ≡ None → o ≡ None
 stray_none None e = refl
 stray_none (Some t) e = absurd (cc)
 
-none_stray : (d : Doing) (h t : ℕ) (rs : List Report) → lowest_stray d h t rs ≡ None → (r : Report) → In r rs
+none_stray : (d : Doing) (h t : ℕ) (rs : List OpenReport) → lowest_stray d h t rs ≡ None → (r : OpenReport) → In r rs
     → is_stray d h t r ≡ false
 none_stray d h t [] e r i = absurd i
 none_stray d h t (s ∷ rs) e r i = at (is_stray d h t s) refl e i (none_stray d h t rs)
   where
     at : (b : Bool) → is_stray d h t s ≡ b → cond b (Some (lower s.tag (lowest_stray d h t rs))) (lowest_stray d h t rs)
         ≡ None → In r (s ∷ rs)
-        → (lowest_stray d h t rs ≡ None → (r : Report) → In r rs → is_stray d h t r ≡ false) → is_stray d h t r ≡ false
+        → (lowest_stray d h t rs ≡ None → (r : OpenReport) → In r rs → is_stray d h t r ≡ false)
+        → is_stray d h t r ≡ false
     at true q e i rec = absurd (cc)
-    at false q e (inl f) rec = subst (λ (z : Report). is_stray d h t z ≡ false) (sym f) q
+    at false q e (inl f) rec = subst (λ (z : OpenReport). is_stray d h t z ≡ false) (sym f) q
     at false q e (inr i) rec = rec e r i
 
-module _ (d : Doing) (head : Head) (early : List Report)
-    (none : (r : Report) → In r early → is_stray d head.hart head.tag r ≡ false) where
+module _ (d : Doing) (head : Head) (early : List OpenReport)
+    (none : (r : OpenReport) → In r early → is_stray d head.hart head.tag r ≡ false) where
   -- an early Bypass of the hart has no lower tag
-  older : (r : Report) → In r early → r.hart ≡ head.hart → head.tag ≤ r.tag
+  older : (r : OpenReport) → In r early → r.hart ≡ head.hart → head.tag ≤ r.tag
   older r i e = at (ltb r.tag head.tag) refl (none r i)
     where
       at : (b : Bool) → ltb r.tag head.tag ≡ b
@@ -482,7 +487,7 @@ module _ (d : Doing) (head : Head) (early : List Report)
           (and_from (eqb r.hart head.hart) true (eq-eqb r.hart head.hart e) refl))
 
   -- one of the instruction is one that the instruction may have
-  may_have : (r : Report) → In r early → is_report head.hart head.tag r ≡ true → is_bypassed d r.piece ≡ true
+  may_have : (r : OpenReport) → In r early → is_report head.hart head.tag r ≡ true → is_bypassed d r.piece ≡ true
   may_have r i e = at (ltb r.tag head.tag) (is_bypassed d r.piece) (none r i)
     where
       own : (eqb r.hart head.hart ≡ true) × (eqb r.tag head.tag ≡ true)
@@ -504,7 +509,7 @@ module _ (d : Doing) (head : Head) (early : List Report)
       at false q = refl
 
   -- what it has is over just its bytes
-  has_over : (addr len : ℕ) → ((piece : Piece) → is_bypassed d piece ≡ is_over addr len piece) → (r : Report)
+  has_over : (addr len : ℕ) → ((piece : Piece) → is_bypassed d piece ≡ is_over addr len piece) → (r : OpenReport)
       → early_of early head.hart head.tag ≡ Some r → HasOver early head addr len
   has_over addr len same r e =
       let p = latest_passes (is_report head.hart head.tag) early r e in
@@ -514,7 +519,8 @@ module _ (d : Doing) (head : Head) (early : List Report)
 
 -- ---- the Reads of a load
 
-counted : (rs : List Report) (t addr len : ℕ) → missing_fault_in addr (first_below (is_missing rs t addr) len) ≡ None
+counted : (rs : List OpenReport) (t addr len : ℕ) → missing_fault_in addr (first_below (is_missing rs t addr) len)
+    ≡ None
     → IsCounted rs t addr len
 counted rs t addr len e k l =
     is_there (counting rs t (addr + k)) (none_below (is_missing rs t addr) len (none _ e) k l)
@@ -524,63 +530,63 @@ counted rs t addr len e k l =
     none (Some k) q = absurd (cc)
 
 -- the live Reads of a hart have different numbers
-live_number : (before : List Message) (h : ℕ) (r : Report) → In r (live before h) → r.number ≤ length before
+live_number : (before : List Message) (h : ℕ) (r : OpenReport) → In r (live before h) → r.number ≤ length before
 live_number = live_all (λ before h r. r.number ≤ length before) (record {
   on = λ before m h r l. omega (arith, l);
   read = λ before head piece. omega arith;
 })
 
 -- a report of a message is new
-not_new : (before : List Message) (h : ℕ) (a : Report) (head : Head) (piece : Piece) → In a (live before h)
-    → a.number ≡ (report_of (number_after before) head piece).number → ⊥
+not_new : (before : List Message) (h : ℕ) (a : OpenReport) (head : Head) (piece : Piece) → In a (live before h)
+    → a.number ≡ (open_report_of (number_after before) head piece).number → ⊥
 not_new before h a head piece i e = let l = live_number before h a i in omega (arith, l, e)
 
-one_now : (before : List Message) (head : Head) (b : Body) (h : ℕ) (a c : Report)
+one_now : (before : List Message) (head : Head) (b : Body) (h : ℕ) (a c : OpenReport)
     → (In a (live before h) → In c (live before h) → a.number ≡ c.number → a ≡ c)
     → In a (live_in (number_after before) (live before h) head b h)
     → In c (live_in (number_after before) (live before h) head b h) → a.number ≡ c.number → a ≡ c
 one_now before head (body.Read piece) h a c rec i j e = at (eqb head.hart h) i j
   where
-    new : Report
-    new = report_of (number_after before) head piece
+    new : OpenReport
+    new = open_report_of (number_after before) head piece
 
     at : (d : Bool) → In a (cond d (new ∷ live before h) (live before h))
         → In c (cond d (new ∷ live before h) (live before h))
         → a ≡ c
     at false i j = rec i j e
     at true (inl f) (inl g) = f ∙ sym g
-    at true (inl f) (inr j) = absurd (not_new before h c head piece j (sym e ∙ ap (λ (z : Report). z.number) f))
-    at true (inr i) (inl g) = absurd (not_new before h a head piece i (e ∙ ap (λ (z : Report). z.number) g))
+    at true (inl f) (inr j) = absurd (not_new before h c head piece j (sym e ∙ ap (λ (z : OpenReport). z.number) f))
+    at true (inr i) (inl g) = absurd (not_new before h a head piece i (e ∙ ap (λ (z : OpenReport). z.number) g))
     at true (inr i) (inr j) = rec i j e
 one_now before head (body.Retire retire) h a c rec i j e = at (eqb head.hart h) i j
   where
     at : (d : Bool)
-        → In a (cond d (filter (λ (s : Report). ltb head.tag s.tag) (live before h)) (live before h))
-        → In c (cond d (filter (λ (s : Report). ltb head.tag s.tag) (live before h)) (live before h)) → a ≡ c
+        → In a (cond d (filter (λ (s : OpenReport). ltb head.tag s.tag) (live before h)) (live before h))
+        → In c (cond d (filter (λ (s : OpenReport). ltb head.tag s.tag) (live before h)) (live before h)) → a ≡ c
     at false i j = rec i j e
-    at true i j = rec (from_filter (λ (s : Report). ltb head.tag s.tag) (live before h) a i).0
-        (from_filter (λ (s : Report). ltb head.tag s.tag) (live before h) c j).0 e
+    at true i j = rec (from_filter (λ (s : OpenReport). ltb head.tag s.tag) (live before h) a i).0
+        (from_filter (λ (s : OpenReport). ltb head.tag s.tag) (live before h) c j).0 e
 one_now before head body.Squash h a c rec i j e = at (eqb head.hart h) i j
   where
     at : (d : Bool)
-        → In a (cond d (filter (λ (s : Report). ltb s.tag head.tag) (live before h)) (live before h))
-        → In c (cond d (filter (λ (s : Report). ltb s.tag head.tag) (live before h)) (live before h)) → a ≡ c
+        → In a (cond d (filter (λ (s : OpenReport). ltb s.tag head.tag) (live before h)) (live before h))
+        → In c (cond d (filter (λ (s : OpenReport). ltb s.tag head.tag) (live before h)) (live before h)) → a ≡ c
     at false i j = rec i j e
-    at true i j = rec (from_filter (λ (s : Report). ltb s.tag head.tag) (live before h) a i).0
-        (from_filter (λ (s : Report). ltb s.tag head.tag) (live before h) c j).0 e
+    at true i j = rec (from_filter (λ (s : OpenReport). ltb s.tag head.tag) (live before h) a i).0
+        (from_filter (λ (s : OpenReport). ltb s.tag head.tag) (live before h) c j).0 e
 one_now before head b h a c rec i j e = rec i j e
 
-pub live_one : (before : List Message) (h : ℕ) (a c : Report) → In a (live before h) → In c (live before h)
+pub live_one : (before : List Message) (h : ℕ) (a c : OpenReport) → In a (live before h) → In c (live before h)
     → a.number ≡ c.number → a ≡ c
 live_one [] h a c i j e = absurd i
 live_one (m ∷ before) h a c i j e = one_now before m.head m.body h a c (live_one before h a c) i j e
 
 -- a Read that counts is a live one
-abbrev FromLive : List Report → Option Report → Type 0
-FromLive rs o = (r : Report) → o ≡ Some r → In r rs
+abbrev FromLive : List OpenReport → Option OpenReport → Type 0
+FromLive rs o = (r : OpenReport) → o ≡ Some r → In r rs
 
-same_is_one : (rs : List Report) → ((a c : Report) → In a rs → In c rs → a.number ≡ c.number → a ≡ c)
-    → (o p : Option Report) → FromLive rs o → FromLive rs p → same_read o p ≡ true → p ≡ o
+same_is_one : (rs : List OpenReport) → ((a c : OpenReport) → In a rs → In c rs → a.number ≡ c.number → a ≡ c)
+    → (o p : Option OpenReport) → FromLive rs o → FromLive rs p → same_read o p ≡ true → p ≡ o
 same_is_one rs one None None f g e = refl
 same_is_one rs one None (Some c) f g e = absurd (false≢true e)
 same_is_one rs one (Some a) None f g e = absurd (false≢true e)
@@ -607,7 +613,8 @@ one_read before h t addr len e k l =
 -- ---- the whole
 
 -- what the faults of a Retire leave, row by row
-pub record NoFaults (run : Run) (rs bs : List Report) (head : Head) (plan : PlanOf) (bypass : Option Report) : Type 0
+pub record NoFaults (run : Run) (rs bs : List OpenReport) (head : Head) (plan : PlanOf)
+    (bypass : Option OpenReport) : Type 0
   where
     pub stray : stray_fault_of (lowest_stray plan.doing head.hart head.tag bs) ≡ None
     pub missing : missing_fault_of rs head.tag plan.doing ≡ None
@@ -615,8 +622,8 @@ pub record NoFaults (run : Run) (rs bs : List Report) (head : Head) (plan : Plan
     pub bypassed : bypass_fault_of bypass plan.doing ≡ None
     pub paired : pair_fault_of run.pair (is_some bypass) plan.doing ≡ None
 
-no_faults : (run : Run) (rs bs : List Report) (head : Head) (retire : Retire) (plan : PlanOf) (effect : Effect)
-    (bypass : Option Report) → retire_fault_in run rs bs head retire plan effect bypass ≡ None
+no_faults : (run : Run) (rs bs : List OpenReport) (head : Head) (retire : Retire) (plan : PlanOf) (effect : Effect)
+    (bypass : Option OpenReport) → retire_fault_in run rs bs head retire plan effect bypass ≡ None
     → NoFaults run rs bs head plan bypass
 unfolding retire_fault_in rows.effect_fault_in rows.register_fault_of
 no_faults run rs bs head retire plan effect bypass e =
@@ -644,10 +651,10 @@ module _ (image : Loaded) (before : List Message) (head : Head) (retire : Retire
   abbrev run : Run
   run = run_of image before head.hart
 
-  abbrev rs : List Report
+  abbrev rs : List OpenReport
   rs = live before head.hart
 
-  abbrev bs : List Report
+  abbrev bs : List OpenReport
   bs = early before
 
   -- the rows of the Retire, were this to be done
@@ -655,13 +662,13 @@ module _ (image : Loaded) (before : List Message) (head : Head) (retire : Retire
   Rows d = NoFaults run rs bs head (record { word = (plan_at image before head.hart).word; doing = d })
       (bypass_at before head)
 
-  none_of : (d : Doing) → Rows d → (r : Report) → In r bs → is_stray d head.hart head.tag r ≡ false
+  none_of : (d : Doing) → Rows d → (r : OpenReport) → In r bs → is_stray d head.hart head.tag r ≡ false
   none_of d f = none_stray d head.hart head.tag bs (stray_none _ f.stray)
 
-  bypass_there : (d : Doing) → rows.is_amo d ≡ true → Rows d → (r : Report) × (bypass_at before head ≡ Some r)
+  bypass_there : (d : Doing) → rows.does_amo d ≡ true → Rows d → (r : OpenReport) × (bypass_at before head ≡ Some r)
   bypass_there d own f = is_there (bypass_at before head)
-      (at (rows.is_amo d) (not (is_some (bypass_at before head))) own
-      (failed_if (rows.is_amo d && not (is_some (bypass_at before head))) _ f.bypassed))
+      (at (rows.does_amo d) (not (is_some (bypass_at before head))) own
+      (failed_if (rows.does_amo d && not (is_some (bypass_at before head))) _ f.bypassed))
     where
       at : (a b : Bool) → a ≡ true → (a && b) ≡ false → b ≡ false
       at true b e q = q
@@ -672,7 +679,7 @@ module _ (image : Loaded) (before : List Message) (head : Head) (retire : Retire
   sc_suits insn addr len f = at (bypass_at before head) refl
       (failed_if (is_some (bypass_at before head) && not (is_in_pair addr len run.pair)) _ f.paired)
     where
-      at : (o : Option Report) → bypass_at before head ≡ o
+      at : (o : Option OpenReport) → bypass_at before head ≡ o
           → (is_some o && not (is_in_pair addr len run.pair)) ≡ false
           → (early_of bs head.hart head.tag ≡ None) ⊎ SuitsSc bs run.pair head addr len
       at None q e = inl q

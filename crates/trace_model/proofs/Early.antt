@@ -19,7 +19,7 @@ use Rattle.rvwmo_model.specs.declared.traces.Trace.{Trace}
 use Rattle.trace_model.proofs.Lists.{In, listed, contained}
 use Rattle.rvwmo_model.specs.Order.{put_at}
 use Rattle.rv_decode.specs.Kinds.{is_sc, is_amo_or_sc}
-use Rattle.rvwmo_model.specs.Atomicity.{IsPair, IsWithin}
+use Rattle.rvwmo_model.specs.Atomicity.{IsPair, IsCoveredBy}
 use Rattle.rvwmo_model.specs.InForm.{AreRising}
 use Rattle.trace_model.proofs.Lists.{in_filter, from_filter, in_map, from_map}
 use Rattle.growth_laws.specs.Growth.{SameMembers, IsYounger, AddEarly, AddsAtomic}
@@ -28,18 +28,19 @@ use Rattle.rvwmo_model.proofs.Membership.{head_in, tail_in}
 use Rattle.rvwmo_model.proofs.Membership.{in_cases as in_first}
 use Rattle.elf_image.specs.Images.{Loaded}
 use Rattle.trace_model.specs.Groups.{mask_from}
-use Rattle.matching.specs.declared.reports.Report.{Report}
+use Rattle.matching.specs.declared.reports.OpenReport.{OpenReport}
 use Rattle.matching.specs.Searches.{latest}
 use Rattle.matching.specs.Settings.{number_after}
 use Rattle.matching.specs.Tags.{is_early}
-use Rattle.matching.specs.Reports.{report_of, is_report, early, place_of_report}
+use Rattle.matching.specs.Reports.{open_report_of, is_report, early, place_of_report}
 use Rattle.trace_model.specs.Entries.{built}
 use Rattle.trace_model.specs.Retirements.{bypass_access, bypass_op}
 use Rattle.trace_model.specs.Traces.{entries, places, early_extent, early_op, granule_of, trace_of}
 use Rattle.trace_model.proofs.Groups.{whole_op}
 use Rattle.trace_model.proofs.Performed.{IsBelow, is_above, members_self}
 
-pub latest_in : (p : Report → Bool) (rs : List Report) (r : Report) → latest p rs ≡ Some r → In r rs × (p r ≡ true)
+pub latest_in : (p : OpenReport → Bool) (rs : List OpenReport) (r : OpenReport) → latest p rs ≡ Some r
+    → In r rs × (p r ≡ true)
 latest_in p [] r e = absurd (cc)
 latest_in p (s ∷ rs) r e = at (p s) refl e (latest_in p rs r)
   where
@@ -48,21 +49,21 @@ latest_in p (s ∷ rs) r e = at (p s) refl e (latest_in p rs r)
     at true q e rec = let same : s ≡ r = cc in (inl (sym same), ap p (sym same) ∙ q)
     at false q e rec = let y = rec e in (inr y.0, y.1)
 
-module _ (rs : List Report) (h t : ℕ) where
-  abbrev others : List Report
-  others = filter (λ (r : Report). not (is_report h t r)) rs
+module _ (rs : List OpenReport) (h t : ℕ) where
+  abbrev others : List OpenReport
+  others = filter (λ (r : OpenReport). not (is_report h t r)) rs
 
-  pub other_in : (r : Report) → In r rs → is_report h t r ≡ false → In r others
-  other_in r i q = in_filter (λ (r : Report). not (is_report h t r)) rs r i (ap not q)
+  pub other_in : (r : OpenReport) → In r rs → is_report h t r ≡ false → In r others
+  other_in r i q = in_filter (λ (r : OpenReport). not (is_report h t r)) rs r i (ap not q)
 
   pub others_back : (v : Op) → In v (map early_op others) → In v (map early_op rs)
   others_back v i =
       let y = from_map early_op others v i in
       subst (λ (z : Op). In z (map early_op rs)) (sym y.2)
-      (in_map early_op rs y.0 (from_filter (λ (r : Report). not (is_report h t r)) rs y.0 y.1).0)
+      (in_map early_op rs y.0 (from_filter (λ (r : OpenReport). not (is_report h t r)) rs y.0 y.1).0)
 
   -- where none of this instruction was early, nothing leaves
-  pub none_leaves : ((r : Report) → In r rs → is_report h t r ≡ false) → SameMembers (map early_op rs)
+  pub none_leaves : ((r : OpenReport) → In r rs → is_report h t r ≡ false) → SameMembers (map early_op rs)
       (map early_op others)
   none_leaves none = record {
     on = λ v h. let i = listed _ v h in let y = from_map early_op rs v i in
@@ -71,7 +72,8 @@ module _ (rs : List Report) (h t : ℕ) where
     back = λ v h. contained _ v (others_back v (listed _ v h));
   }
 
-  module _ (b : Report) (is : latest (is_report h t) rs ≡ Some b) (one : (r : Report) → In r rs → is_report h t r ≡ true
+  module _ (b : OpenReport) (is : latest (is_report h t) rs ≡ Some b) (one : (r : OpenReport) → In r rs
+      → is_report h t r ≡ true
       → r ≡ b) where
     abbrev e : Op
     e = early_op b
@@ -82,7 +84,7 @@ module _ (rs : List Report) (h t : ℕ) where
     pub early_on : (v : Op) → In v (map early_op rs) → (v ≡ e) ⊎ In v (map early_op others)
     early_on v i = let y = from_map early_op rs v i in at y.0 y.1 y.2 (is_report h t y.0) refl
       where
-        at : (r : Report) → In r rs → v ≡ early_op r → (c : Bool) → is_report h t r ≡ c → (v ≡ e)
+        at : (r : OpenReport) → In r rs → v ≡ early_op r → (c : Bool) → is_report h t r ≡ c → (v ≡ e)
             ⊎ In v (map early_op others)
         at r j s true q = inl (s ∙ ap early_op (one r j q))
         at r j s false q = inr (subst (λ (z : Op). In z (map early_op others)) (sym s)
@@ -91,7 +93,7 @@ module _ (rs : List Report) (h t : ℕ) where
     pub early_gone : In e (map early_op others) → ⊥
     early_gone i =
         let y = from_map early_op others e i in
-        let f = from_filter (λ (r : Report). not (is_report h t r)) rs y.0 y.1 in
+        let f = from_filter (λ (r : OpenReport). not (is_report h t r)) rs y.0 y.1 in
         let same : is_report h t b ≡ is_report h t y.0 = ap (λ (z : Op). eqb z.name.hart h && eqb z.name.tag t) y.2 in
         at (is_report h t y.0) (sym same ∙ (latest_in (is_report h t) rs b is).1) f.1
       where
@@ -103,7 +105,7 @@ module _ (rs : List Report) (h t : ℕ) where
     pub adds_atomic_of : (t1 t2 : Trace) (r : Retired) (k : OpKind) (x : Extent) (got : List ℕ) (aq rl : Ann) → t1.early
         ≡ map early_op rs → t2.early ≡ map early_op others → is_amo_or_sc r.insn ≡ true
         → early_extent b ≡ x → (is_sc r.insn ≡ true → (l : Op) × IsPair t2 l (bypass_op k x got aq rl b)
-        × IsWithin (bypass_op k x got aq rl b) l)
+        × IsCoveredBy (bypass_op k x got aq rl b) l)
         → AddsAtomic t1 t2 r (bypass_op k x got aq rl b ∷ []) e (bypass_op k x got aq rl b)
     adds_atomic_of t1 t2 r k x got aq rl from to atomic same pair = record {
       atomic = atomic;
@@ -132,8 +134,8 @@ module _ (image : Loaded) (before : List Message) (head : Head) (piece : Piece)
   abbrev new : Trace
   new = trace_of image (record { head = head; body = body.Bypass piece } ∷ before)
 
-  abbrev r : Report
-  r = report_of (number_after before) head piece
+  abbrev r : OpenReport
+  r = open_report_of (number_after before) head piece
 
   early_list : early (record { head = head; body = body.Bypass piece } ∷ before) ≡ r ∷ early before
   early_list = rw early_now refl
@@ -150,7 +152,8 @@ module _ (image : Loaded) (before : List Message) (head : Head) (piece : Piece)
 
   pub bypass_early : AreRising old.insns → AllPairs (λ u v. u ≢ v) old.ops → length piece.bytes ≡ (early_extent r).len
       → IsYounger old (early_op r) → IsBelow old (place_of_report r)
-      → ((s : Report) → In s (early before) → is_report head.hart head.tag s ≡ false) → AddEarly old new (early_op r)
+      → ((s : OpenReport) → In s (early before) → is_report head.hart head.tag s ≡ false)
+      → AddEarly old new (early_op r)
   bypass_early rising once sized younger below fresh = subst (λ (z : Trace). AddEarly old z (early_op r)) is_after
       (record {
         keeps = record { insns = λ h k. refl; rising = rising; once = once; granule = refl };

@@ -13,12 +13,12 @@ use Rattle.msg_frames.specs.declared.message.Message.{Message}
 use Rattle.trace_model.proofs.Lists.{In}
 use Rattle.trace_model.proofs.Lists.{from_filter}
 use Rattle.matching.specs.declared.stores.Fate.{Fate}
-use Rattle.matching.specs.declared.reports.Report.{Report}
+use Rattle.matching.specs.declared.reports.OpenReport.{OpenReport}
 use Rattle.matching.specs.declared.stores.Fate.TheVariants.{Nothing, Waiting, Done}
 use Rattle.matching.specs.Settings.{number_after}
-use Rattle.matching.specs.Pieces.{has, line_of}
+use Rattle.matching.specs.Pieces.{has, line_start}
 use Rattle.matching.specs.Tags.{is_of, is_early}
-use Rattle.matching.specs.Reports.{report_of, is_report, live_in, live, early_in, early}
+use Rattle.matching.specs.Reports.{open_report_of, is_report, live_in, live, early_in, early}
 use Rattle.matching.specs.Fates.{drained, fate_in, fate}
 
 -- what holds of the place of each new Done, and goes on, holds of each
@@ -54,7 +54,7 @@ module _ (P : List Message → Place → Type 0) (c : OnDone P) where
           at : (d : Bool) → cond d (Waiting (number_after before)) (fate before h t x) ≡ Done q → At (body.Insert piece)
           at true e = absurd (cc)
           at false e = on (body.Insert piece) e
-      fate_now (body.Write write) e = at (eqb head.hart h && eqb write.line (line_of x)) e
+      fate_now (body.Write write) e = at (eqb head.hart h && eqb write.line (line_start x)) e
         where
           at : (d : Bool) → cond d (drained head.time (number_after before) (fate before h t x)) (fate before h t x)
               ≡ Done q → At (body.Write write)
@@ -76,64 +76,65 @@ module _ (P : List Message → Place → Type 0) (c : OnDone P) where
   fate_all (m ∷ before) h t x q e = fate_now before m.head h t x q (fate_all before h t x q) m.body e
 
 -- the same of live Reads
-pub record OnRead (P : List Message → ℕ → Report → Type 0) : Type 0 where
-  pub on : (before : List Message) (m : Message) (h : ℕ) (r : Report) → P before h r → P (m ∷ before) h r
+pub record OnRead (P : List Message → ℕ → OpenReport → Type 0) : Type 0 where
+  pub on : (before : List Message) (m : Message) (h : ℕ) (r : OpenReport) → P before h r → P (m ∷ before) h r
   pub read : (before : List Message) (head : Head) (piece : Piece)
       → P (record { head = head; body = body.Read piece } ∷ before) head.hart
-      (report_of (number_after before) head piece)
+      (open_report_of (number_after before) head piece)
 
-module _ (P : List Message → ℕ → Report → Type 0) (c : OnRead P) where
-  live_now : (before : List Message) (head : Head) (h : ℕ) (r : Report) → (In r (live before h) → P before h r)
+module _ (P : List Message → ℕ → OpenReport → Type 0) (c : OnRead P) where
+  live_now : (before : List Message) (head : Head) (h : ℕ) (r : OpenReport) → (In r (live before h) → P before h r)
       → (b : Body) → In r (live_in (number_after before) (live before h) head b h)
       → P (record { head = head; body = b } ∷ before) h r
   live_now before head h r old (body.Read piece) i = at (eqb head.hart h) refl i
     where
-      at : (d : Bool) → eqb head.hart h ≡ d → In r (cond d (report_of (number_after before) head piece ∷ live before h)
+      at : (d : Bool) → eqb head.hart h ≡ d → In r (cond d (open_report_of
+          (number_after before) head piece ∷ live before h)
           (live before h)) → P (record { head = head; body = body.Read piece } ∷ before) h r
       at true q (inl e) = rw e (subst (λ (z : ℕ). P (record { head = head; body = body.Read piece } ∷ before) z
-          (report_of (number_after before) head piece)) (eqb-true _ _ q) (c.read before head piece))
+          (open_report_of (number_after before) head piece)) (eqb-true _ _ q) (c.read before head piece))
       at true q (inr j) = c.on before _ h r (old j)
       at false q j = c.on before _ h r (old j)
   live_now before head h r old (body.Retire retire) i = at (eqb head.hart h) i
     where
-      at : (d : Bool) → In r (cond d (filter (λ (s : Report). ltb head.tag s.tag) (live before h)) (live before h))
+      at : (d : Bool) → In r (cond d (filter (λ (s : OpenReport). ltb head.tag s.tag) (live before h)) (live before h))
           → P (record { head = head; body = body.Retire retire } ∷ before) h r
-      at true j = c.on before _ h r (old (from_filter (λ (s : Report). ltb head.tag s.tag) (live before h) r j).0)
+      at true j = c.on before _ h r (old (from_filter (λ (s : OpenReport). ltb head.tag s.tag) (live before h) r j).0)
       at false j = c.on before _ h r (old j)
   live_now before head h r old body.Squash i = at (eqb head.hart h) i
     where
-      at : (d : Bool) → In r (cond d (filter (λ (s : Report). ltb s.tag head.tag) (live before h)) (live before h))
+      at : (d : Bool) → In r (cond d (filter (λ (s : OpenReport). ltb s.tag head.tag) (live before h)) (live before h))
           → P (record { head = head; body = body.Squash } ∷ before) h r
-      at true j = c.on before _ h r (old (from_filter (λ (s : Report). ltb s.tag head.tag) (live before h) r j).0)
+      at true j = c.on before _ h r (old (from_filter (λ (s : OpenReport). ltb s.tag head.tag) (live before h) r j).0)
       at false j = c.on before _ h r (old j)
   live_now before head h r old b i = c.on before _ h r (old i)
 
-  pub live_all : (before : List Message) (h : ℕ) (r : Report) → In r (live before h) → P before h r
+  pub live_all : (before : List Message) (h : ℕ) (r : OpenReport) → In r (live before h) → P before h r
   live_all [] h r i = absurd i
   live_all (m ∷ before) h r i = live_now before m.head h r (live_all before h r) m.body i
 
 -- the same of early Bypasses
-pub record OnEarly (P : List Message → Report → Type 0) : Type 0 where
-  pub on : (before : List Message) (m : Message) (r : Report) → P before r → P (m ∷ before) r
+pub record OnEarly (P : List Message → OpenReport → Type 0) : Type 0 where
+  pub on : (before : List Message) (m : Message) (r : OpenReport) → P before r → P (m ∷ before) r
   pub bypass : (before : List Message) (head : Head) (piece : Piece) → is_early before head ≡ true
-      → P (record { head = head; body = body.Bypass piece } ∷ before) (report_of (number_after before) head piece)
+      → P (record { head = head; body = body.Bypass piece } ∷ before) (open_report_of (number_after before) head piece)
 
-module _ (P : List Message → Report → Type 0) (c : OnEarly P) where
-  early_now : (before : List Message) (head : Head) (r : Report) → (In r (early before) → P before r) → (b : Body)
+module _ (P : List Message → OpenReport → Type 0) (c : OnEarly P) where
+  early_now : (before : List Message) (head : Head) (r : OpenReport) → (In r (early before) → P before r) → (b : Body)
       → In r (early_in before (early before) head b) → P (record { head = head; body = b } ∷ before) r
   early_now before head r old (body.Bypass piece) i = at (is_early before head) refl i
     where
       at : (d : Bool) → is_early before head ≡ d → In r
-          (cond d (report_of (number_after before) head piece ∷ early before) (early before))
+          (cond d (open_report_of (number_after before) head piece ∷ early before) (early before))
           → P (record { head = head; body = body.Bypass piece } ∷ before) r
       at true q (inl e) = rw e (c.bypass before head piece q)
       at true q (inr j) = c.on before _ r (old j)
       at false q j = c.on before _ r (old j)
   early_now before head r old (body.Retire retire) i = c.on before _ r
-      (old (from_filter (λ (s : Report). not (is_report head.hart head.tag s)) (early before) r i).0)
+      (old (from_filter (λ (s : OpenReport). not (is_report head.hart head.tag s)) (early before) r i).0)
   early_now before head r old b i = c.on before _ r (old i)
 
-  pub early_all : (before : List Message) (r : Report) → In r (early before) → P before r
+  pub early_all : (before : List Message) (r : OpenReport) → In r (early before) → P before r
   early_all [] r i = absurd i
   early_all (m ∷ before) r i = early_now before m.head r (early_all before r) m.body i
 
@@ -171,7 +172,7 @@ unfolding message_at
 message_new before m = rw (eq-eqb (length before + 1) (length before + 1) refl) refl
 
 -- a live Read is the message of its number
-abbrev pub IsLiveRead : List Message → ℕ → Report → Type 0
+abbrev pub IsLiveRead : List Message → ℕ → OpenReport → Type 0
 IsLiveRead before h r = (m : Message) × (message_at before r.number ≡ Some m) × (is_read m.body ≡ true)
     × (m.head.hart ≡ h) × (m.head.tag ≡ r.tag)
 
@@ -179,7 +180,7 @@ IsLiveRead before h r = (m : Message) × (message_at before r.number ≡ Some m)
 abbrev pub IsNoRead : List Message → ℕ → Type 0
 IsNoRead before n = (m : Message) × (message_at before n ≡ Some m) × (is_read m.body ≡ false)
 
-pub live_read : (before : List Message) (h : ℕ) (r : Report) → In r (live before h) → IsLiveRead before h r
+pub live_read : (before : List Message) (h : ℕ) (r : OpenReport) → In r (live before h) → IsLiveRead before h r
 live_read = live_all IsLiveRead (record {
   on = λ before n h r y. (y.0, message_on before n r.number y.0 y.1, y.2, y.3, y.4);
   read = λ before head piece. (
@@ -199,7 +200,7 @@ done_no_read = fate_all (λ before q. IsNoRead before q.message) (record {
   bypass = λ before head piece. (_, message_new before (record { head = head; body = body.Bypass piece }), refl);
 })
 
-pub early_no_read : (before : List Message) (r : Report) → In r (early before) → IsNoRead before r.number
+pub early_no_read : (before : List Message) (r : OpenReport) → In r (early before) → IsNoRead before r.number
 early_no_read = early_all (λ before r. IsNoRead before r.number) (record {
   on = λ before n r y. (y.0, message_on before n r.number y.0 y.1, y.2);
   bypass = λ before head piece e. (_, message_new before (record { head = head; body = body.Bypass piece }), refl);

@@ -13,7 +13,7 @@ use Rattle.msg_frames.specs.declared.message.Message.{Message}
 use Rattle.matching.specs.declared.stores.Fate.{Fate}
 use Rattle.matching.specs.declared.stores.Fate.TheVariants.{Nothing, Waiting, Done}
 use Rattle.matching.specs.Settings.{number_after}
-use Rattle.matching.specs.Pieces.{has, line_of}
+use Rattle.matching.specs.Pieces.{has, line_start}
 use Rattle.matching.specs.Tags.{is_of, is_early}
 use Rattle.matching.specs.Fates.{drained, fate_in, fate}
 use Rattle.trace_model.specs.FirstWrites.{IsMessage, IsInsert, IsPlainBypass, IsWrite, IsFirstWrite}
@@ -244,11 +244,11 @@ module _ (before : List Message) (head : Head) (h t x : ℕ) where
     λ k time i. elim (bypass_cases before head b h t x k time i) [ inl n ↦ no_bypass n | inr j ↦ old.1 k time j ],
   )
 
-  kept_waiting : (b : Body) (j : ℕ) → (Writes before head b h (line_of x) → ⊥)
+  kept_waiting : (b : Body) (j : ℕ) → (Writes before head b h (line_start x) → ⊥)
       → IsFate before h t x (Waiting j) → Now b (Waiting j)
   kept_waiting b j no_write old = (
     insert_on before head b h t x j old.0,
-    λ k time l i. elim (write_cases before head b h (line_of x) k time i) [
+    λ k time l i. elim (write_cases before head b h (line_start x) k time i) [
       | inl n ↦ no_write n.0
       | inr w ↦ old.1 k time l w
     ],
@@ -260,11 +260,11 @@ module _ (before : List Message) (head : Head) (h t x : ℕ) where
     insert_on before head b h t x p.insert q.0,
     record {
       after = q.1.after;
-      write = write_on before head b h (line_of x) p.message p.time q.1.write;
-      first = λ i at l m w. elim (write_cases before head b h (line_of x) i at w) [
+      write = write_on before head b h (line_start x) p.message p.time q.1.write;
+      first = λ i at l m w. elim (write_cases before head b h (line_start x) i at w) [
         | inl n ↦
             let s = n.1 in
-            let u = write_at_most before h (line_of x) p.message p.time q.1.write in
+            let u = write_at_most before h (line_start x) p.message p.time q.1.write in
             absurd (omega (arith, s, u, m))
         | inr v ↦ q.1.first i at l m v
       ];
@@ -273,7 +273,7 @@ module _ (before : List Message) (head : Head) (h t x : ℕ) where
 
   -- a message that is none of the three leaves a fate as it was
   kept : (b : Body) (f : Fate) → (Inserts before head b h t x → ⊥) → (Bypasses before head b h t x → ⊥)
-      → (Writes before head b h (line_of x) → ⊥) → IsFate before h t x f → Now b f
+      → (Writes before head b h (line_start x) → ⊥) → IsFate before h t x f → Now b f
   kept b Nothing no_insert no_bypass no_write old = kept_nothing b no_insert no_bypass old
   kept b (Waiting j) no_insert no_bypass no_write old = kept_waiting b j no_write old
   kept b (Done p) no_insert no_bypass no_write old = kept_done b p old
@@ -293,9 +293,9 @@ module _ (before : List Message) (head : Head) (h t x : ℕ) where
           of = p.0;
           byte = p.1;
         },
-        λ k time l i. elim (write_cases before head (body.Insert piece) h (line_of x) k time i) [
+        λ k time l i. elim (write_cases before head (body.Insert piece) h (line_start x) k time i) [
           | inl n ↦ let c : body.Insert piece ≡ body.Write n.0.0 = n.0.1 in absurd (cc)
-          | inr w ↦ let u = write_at_most before h (line_of x) k time w in absurd (omega (arith, u, l))
+          | inr w ↦ let u = write_at_most before h (line_start x) k time w in absurd (omega (arith, u, l))
         ],
       )
       at false e = kept (body.Insert piece) (fate before h t x)
@@ -306,7 +306,7 @@ module _ (before : List Message) (head : Head) (h t x : ℕ) where
           (λ i. let c : body.Insert piece ≡ body.Bypass i.0 = i.1 in absurd (cc))
           (λ i. let c : body.Insert piece ≡ body.Write i.0 = i.1 in absurd (cc)) old
 
-  drained_told : (write : LineWrite) → head.hart ≡ h → write.line ≡ line_of x → (f : Fate) → IsFate before h t x f
+  drained_told : (write : LineWrite) → head.hart ≡ h → write.line ≡ line_start x → (f : Fate) → IsFate before h t x f
       → Now (body.Write write) (drained head.time (number_after before) f)
   drained_told write own line Nothing old = kept_nothing (body.Write write)
       (λ i. let c : body.Write write ≡ body.Insert i.0 = i.1 in absurd (cc))
@@ -325,7 +325,7 @@ module _ (before : List Message) (head : Head) (h t x : ℕ) where
         line = line;
         timed = refl;
       };
-      first = λ i at l m w. elim (write_cases before head (body.Write write) h (line_of x) i at w) [
+      first = λ i at l m w. elim (write_cases before head (body.Write write) h (line_start x) i at w) [
         | inl n ↦ let s = n.1 in absurd (omega (arith, s, m))
         | inr v ↦ old.1 i at l v
       ];
@@ -334,19 +334,19 @@ module _ (before : List Message) (head : Head) (h t x : ℕ) where
 
   write_told : (write : LineWrite) → IsFate before h t x (fate before h t x)
       → Now (body.Write write) (fate_in before (fate before h t x) head (body.Write write) h t x)
-  write_told write old = at (eqb head.hart h && eqb write.line (line_of x)) refl
+  write_told write old = at (eqb head.hart h && eqb write.line (line_start x)) refl
     where
-      at : (c : Bool) → (eqb head.hart h && eqb write.line (line_of x)) ≡ c
+      at : (c : Bool) → (eqb head.hart h && eqb write.line (line_start x)) ≡ c
           → Now (body.Write write) (cond c (drained head.time (number_after before) (fate before h t x))
           (fate before h t x))
-      at true e = let p = and_parts (eqb head.hart h) (eqb write.line (line_of x)) e in
+      at true e = let p = and_parts (eqb head.hart h) (eqb write.line (line_start x)) e in
           drained_told write (eqb-true _ _ p.0) (eqb-true _ _ p.1) (fate before h t x) old
       at false e = kept (body.Write write) (fate before h t x)
           (λ i. let c : body.Write write ≡ body.Insert i.0 = i.1 in absurd (cc))
           (λ i. let c : body.Write write ≡ body.Bypass i.0 = i.1 in absurd (cc))
           (λ i. let c : body.Write write ≡ body.Write i.0 = i.1 in
           let s : write ≡ i.0 = cc in
-          both_ways (eqb head.hart h && eqb write.line (line_of x)) e
+          both_ways (eqb head.hart h && eqb write.line (line_start x)) e
           (and_from _ _ (eq-eqb _ _ i.2) (eq-eqb _ _ (ap (λ (z : LineWrite). z.line) s ∙ i.3)))) old
 
   bypass_kept : (piece : Piece) (f : Fate) → (Bypasses before head (body.Bypass piece) h t x → ⊥)
@@ -543,8 +543,8 @@ module _ (messages : List Message) (fresh : AreFresh messages) (h t x : ℕ) whe
   one_place : (p q : Place) → IsFate messages h t x (Done p) → IsFate messages h t x (Done q) → p ≡ q
   one_place p q (inl a) (inl b) =
       let e = one_insert p.insert q.insert a.0 b.0 in
-      let w = one_write (line_of x) p.insert p.message p.time q.message q.time a.1
-      (subst (λ (z : ℕ). IsFirstWrite messages h (line_of x) z q.message q.time) (sym e) b.1) in
+      let w = one_write (line_start x) p.insert p.message p.time q.message q.time a.1
+      (subst (λ (z : ℕ). IsFirstWrite messages h (line_start x) z q.message q.time) (sym e) b.1) in
       λ i. record { time = w.1 i; message = w.0 i; insert = e i }
   one_place p q (inl a) (inr b) = absurd (not_both p.insert q.message q.time a.0 b.0)
   one_place p q (inr a) (inl b) = absurd (not_both q.insert p.message p.time b.0 a.0)

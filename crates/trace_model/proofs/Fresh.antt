@@ -6,7 +6,7 @@ use Rattle.msg_frames.specs.declared.message.Body.{Body}
 use Rattle.msg_frames.specs.declared.message.Body.TheVariants as body
 use Rattle.msg_frames.specs.declared.message.Message.{Message}
 use Rattle.matching.specs.declared.stores.Fate.TheVariants.{Nothing}
-use Rattle.matching.specs.Pieces.{has, line_of}
+use Rattle.matching.specs.Pieces.{has, line_start}
 use Rattle.matching.specs.Tags.{is_early}
 use Rattle.matching.specs.Fates.{fate}
 
@@ -15,7 +15,7 @@ abbrev pub IsFresh : List Message → Head → Piece → Type 0
 IsFresh before head piece = (x : ℕ) → has piece x ≡ true → fate before head.hart head.tag x ≡ Nothing
 
 abbrev pub IsInLine : Piece → Type 0
-IsInLine piece = (x : ℕ) → has piece x ≡ true → line_of x ≡ line_of piece.addr
+IsInLine piece = (x : ℕ) → has piece x ≡ true → line_start x ≡ line_start piece.addr
 
 -- what the faults on Inserts and plain Bypasses leave
 abbrev pub IsFreshAt : List Message → Head → Body → Type 0

@@ -38,7 +38,7 @@ same_self (Some p) = and_from _ _ (and_from _ _ (eq-eqb p.time p.time refl) (eq-
 
 -- ---- masks
 
-step_on : (k i : ℕ) → k + suc i ≡ suc k + i
+pub step_on : (k i : ℕ) → k + suc i ≡ suc k + i
 step_on k i = omega arith
 
 pub mask_bit : (p : ℕ → Bool) (k n i : ℕ) → i < n → bit_at (mask_from p k n) i ≡ cond (p (k + i)) 1 0

@@ -17,7 +17,7 @@ use Rattle.rvwmo_model.specs.InForm.{AreRising}
 use Rattle.growth_laws.specs.Growth.{Same, AddEarly, Performs}
 use Rattle.matching.specs.Settings.{number_after, last_time}
 use Rattle.matching.specs.Tags.{is_early}
-use Rattle.matching.specs.Reports.{report_of, live, early}
+use Rattle.matching.specs.Reports.{open_report_of, live, early}
 use Rattle.matching.specs.Fates.{waiting, place_of}
 use Rattle.matching.specs.Runs.{run_of, doing_at}
 use Rattle.trace_model.specs.Entries.{Entry, insns_of}
@@ -116,7 +116,7 @@ module _ (image : Loaded) (before : List Message) (s : Suited image before) (hea
       (fits image before head (body.Bypass piece) t) k.hart k.tag k.inside k.some (below (number_after before))
 
   pub early_bypasses : (piece : Piece) → SuitsBody image before head (body.Bypass piece) → is_early before head ≡ true
-      → AddEarly old (new (body.Bypass piece)) (early_op (report_of (number_after before) head piece))
+      → AddEarly old (new (body.Bypass piece)) (early_op (open_report_of (number_after before) head piece))
   early_bypasses piece t young =
       let y = t.0 young in
       let x = extent_is piece.addr (length piece.bytes) y.sized in

@@ -6,10 +6,11 @@ use Rattle.msg_frames.specs.declared.message.Body.TheVariants as body
 use Rattle.msg_frames.specs.declared.message.Message.{Message}
 use Rattle.elf_image.specs.Images.{Loaded}
 use Rattle.rv_step.specs.Steps.{Doing, trap, plain, counter, load, store, lr, sc, amo}
-use Rattle.matching.specs.declared.reports.Report.{Report}
+use Rattle.matching.specs.declared.reports.OpenReport.{OpenReport}
 use Rattle.matching.specs.Reports.{live, early}
 use Rattle.matching.specs.Runs.{doing_at}
-use Rattle.trace_model.specs.Entries.{Entry}
+use Rattle.rvwmo_model.specs.declared.instructions.Retired.{Retired}
+use Rattle.trace_model.specs.Entries.{Entry, MemoryUse}
 use Rattle.trace_model.specs.Retirements.{entry_of}
 use Rattle.trace_model.specs.Traces.{entry_in, with_entry, stored_at}
 use Rattle.trace_model.proofs.Lists.{In}
@@ -31,7 +32,8 @@ is_at : (head : Head) (f e : Entry) → Some f ≡ Some e → IsAt head f → Is
 is_at head f e q k = subst (IsAt head) (let c : f ≡ e = cc in c) k
 
 -- the entry of a Retire is of its hart and tag
-pub entry_key : (rs bs : List Report) (head : Head) (put : List ℕ) (d : Doing) (e : Entry) → entry_of rs bs head put d
+pub entry_key : (rs bs : List OpenReport) (head : Head) (put : List ℕ) (d : Doing) (e : Entry)
+    → entry_of rs bs head put d
     ≡ Some e → IsAt head e
 entry_key rs bs head put (trap cause value) e q = absurd (cc)
 entry_key rs bs head put (plain insn) e q = is_at head _ e q (refl, refl)
@@ -47,3 +49,8 @@ pub new_key : (image : Loaded) (before : List Message) (head : Head) (b : Body) 
 new_key image before head (body.Retire retire) e q = entry_key (live before head.hart) (early before) head
     (stored_at image before head retire) (doing_at image before head.hart) e q
 new_key image before head _ e q = absurd (cc)
+
+-- an entry is its instruction and what it did
+pub same_entry : (e : Entry) (r : Retired) (m : MemoryUse) → e.insn ≡ r → e.memory ≡ m
+    → e ≡ record { insn = r; memory = m }
+same_entry e r m p q = λ i. record { insn = p i; memory = q i }

@@ -13,7 +13,7 @@ use Rattle.matching.specs.declared.stores.Fate.{Fate}
 use Rattle.matching.specs.declared.stores.Held.{Held}
 use Rattle.matching.specs.declared.stores.Fate.TheVariants.{Nothing, Done}
 use Rattle.matching.specs.Settings.{number_after}
-use Rattle.matching.specs.Pieces.{has, line_of}
+use Rattle.matching.specs.Pieces.{has, line_start}
 use Rattle.matching.specs.Tags.{is_of, is_early}
 use Rattle.matching.specs.Fates.{waiting, drained, fate_in, fate}
 use Rattle.trace_model.proofs.Fresh.{AreFresh, IsFreshAt}
@@ -123,7 +123,7 @@ module _ (image : Loaded) (before : List Message) (head : Head) (h t x : ℕ)
 
   owned_now : (b : Body) → SuitsBody image before head b → At b
   owned_now (body.Insert piece) k = with_piece piece _ k.known (is_of head h t && has piece x) refl
-  owned_now (body.Write write) k = at (eqb head.hart h && eqb write.line (line_of x)) old
+  owned_now (body.Write write) k = at (eqb head.hart h && eqb write.line (line_start x)) old
     where
       at : (c : Bool) → IsNothing (fate before h t x) ⊎ HasStore (entries image before) h t
           → IsNothing (cond c (drained head.time (number_after before) (fate before h t x)) (fate before h t x))

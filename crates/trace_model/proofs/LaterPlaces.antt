@@ -18,13 +18,14 @@ use Rattle.rvwmo_model.specs.declared.operations.Op.{Op}
 use Rattle.rvwmo_model.specs.declared.operations.OpKind.{OpKind}
 use Rattle.rvwmo_model.specs.declared.operations.Ann.{Ann}
 use Rattle.growth_laws.specs.Growth.{IsYounger}
-use Rattle.matching.specs.declared.reports.Report.{Report}
+use Rattle.matching.specs.declared.reports.OpenReport.{OpenReport}
 use Rattle.matching.specs.declared.stores.Fate.{Fate}
 use Rattle.matching.specs.declared.stores.Fate.TheVariants.{Nothing, Waiting, Done}
 use Rattle.matching.specs.Settings.{number_after}
-use Rattle.matching.specs.Pieces.{has, line_of}
+use Rattle.matching.specs.Pieces.{has, line_start}
 use Rattle.matching.specs.Tags.{is_of, is_early}
-use Rattle.matching.specs.Reports.{report_of, is_report, is_for, live_in, live, early_in, early, early_of, counting}
+use Rattle.matching.specs.Reports.{open_report_of, is_report, is_for, live_in}
+use Rattle.matching.specs.Reports.{live, early_in, early, early_of, counting}
 use Rattle.matching.specs.Reports.{place_of_report, place_counted}
 use Rattle.matching.specs.Fates.{drained, fate_in, fate, place_of}
 use Rattle.matching.specs.Runs.{doing_at}
@@ -48,13 +49,13 @@ use Rattle.trace_model.proofs.Cleaned.{suited}
 -- ---- the operations of an instruction that retires
 
 -- what P says of the places of its live Reads and of its early Bypass it says of its operations
-module _ (P : Place → Type 0) (head : Head) (rs bs : List Report)
-    (live_p : (r : Report) → In r rs → P (place_of_report r))
-    (early_p : (r : Report) → In r bs → r.hart ≡ head.hart → P (place_of_report r)) where
+module _ (P : Place → Type 0) (head : Head) (rs bs : List OpenReport)
+    (live_p : (r : OpenReport) → In r rs → P (place_of_report r))
+    (early_p : (r : OpenReport) → In r bs → r.hart ≡ head.hart → P (place_of_report r)) where
   counted_at : (x : ℕ) (q : Place) → place_counted (counting rs head.tag x) ≡ Some q → P q
   counted_at x q e = at (counting rs head.tag x) refl e
     where
-      at : (o : Option Report) → counting rs head.tag x ≡ o → place_counted o ≡ Some q → P q
+      at : (o : Option OpenReport) → counting rs head.tag x ≡ o → place_counted o ≡ Some q → P q
       at None f e = absurd (cc)
       at (Some r) f e =
           subst P (let s : place_of_report r ≡ q = cc in s) (live_p r (latest_in (is_for head.tag x) rs r f).0)
@@ -72,7 +73,7 @@ module _ (P : Place → Type 0) (head : Head) (rs bs : List Report)
       let l : ops ≡ atomic_ops k extent got aq rl (early_of bs head.hart head.tag) = cc in
       at (early_of bs head.hart head.tag) refl (subst (λ (z : List Op). In v z) l i)
     where
-      at : (o : Option Report) → early_of bs head.hart head.tag ≡ o → In v (atomic_ops k extent got aq rl o) → P q
+      at : (o : Option OpenReport) → early_of bs head.hart head.tag ≡ o → In v (atomic_ops k extent got aq rl o) → P q
       at None s i = absurd i
       at (Some r) s (inr i) = absurd i
       at (Some r) s (inl e) =
@@ -105,38 +106,38 @@ module _ (P : Place → Type 0) (head : Head) (rs bs : List Report)
 -- ---- one message more
 
 -- a live Read was live, or is this message
-live_cases : (X : Type 0) (ms : List Message) (head : Head) (b : Body) (h : ℕ) (r : Report)
+live_cases : (X : Type 0) (ms : List Message) (head : Head) (b : Body) (h : ℕ) (r : OpenReport)
     → (r.number ≡ number_after ms → X) → (In r (live ms h) → X)
     → In r (live_in (number_after ms) (live ms h) head b h) → X
 live_cases X ms head (body.Read piece) h r new old i = at (eqb head.hart h) i
   where
-    at : (d : Bool) → In r (cond d (report_of (number_after ms) head piece ∷ live ms h) (live ms h)) → X
-    at true (inl e) = new (ap (λ (z : Report). z.number) e)
+    at : (d : Bool) → In r (cond d (open_report_of (number_after ms) head piece ∷ live ms h) (live ms h)) → X
+    at true (inl e) = new (ap (λ (z : OpenReport). z.number) e)
     at true (inr j) = old j
     at false j = old j
 live_cases X ms head (body.Retire retire) h r new old i = at (eqb head.hart h) i
   where
-    at : (d : Bool) → In r (cond d (filter (λ (s : Report). ltb head.tag s.tag) (live ms h)) (live ms h)) → X
-    at true j = old (from_filter (λ (s : Report). ltb head.tag s.tag) (live ms h) r j).0
+    at : (d : Bool) → In r (cond d (filter (λ (s : OpenReport). ltb head.tag s.tag) (live ms h)) (live ms h)) → X
+    at true j = old (from_filter (λ (s : OpenReport). ltb head.tag s.tag) (live ms h) r j).0
     at false j = old j
 live_cases X ms head body.Squash h r new old i = at (eqb head.hart h) i
   where
-    at : (d : Bool) → In r (cond d (filter (λ (s : Report). ltb s.tag head.tag) (live ms h)) (live ms h)) → X
-    at true j = old (from_filter (λ (s : Report). ltb s.tag head.tag) (live ms h) r j).0
+    at : (d : Bool) → In r (cond d (filter (λ (s : OpenReport). ltb s.tag head.tag) (live ms h)) (live ms h)) → X
+    at true j = old (from_filter (λ (s : OpenReport). ltb s.tag head.tag) (live ms h) r j).0
     at false j = old j
 live_cases X ms head b h r new old i = old i
 
 -- an early Bypass was early, or is this message
-early_cases : (X : Type 0) (ms : List Message) (head : Head) (b : Body) (r : Report)
+early_cases : (X : Type 0) (ms : List Message) (head : Head) (b : Body) (r : OpenReport)
     → (r.number ≡ number_after ms → X) → (In r (early ms) → X) → In r (early_in ms (early ms) head b) → X
 early_cases X ms head (body.Bypass piece) r new old i = at (is_early ms head) i
   where
-    at : (d : Bool) → In r (cond d (report_of (number_after ms) head piece ∷ early ms) (early ms)) → X
-    at true (inl e) = new (ap (λ (z : Report). z.number) e)
+    at : (d : Bool) → In r (cond d (open_report_of (number_after ms) head piece ∷ early ms) (early ms)) → X
+    at true (inl e) = new (ap (λ (z : OpenReport). z.number) e)
     at true (inr j) = old j
     at false j = old j
 early_cases X ms head (body.Retire retire) r new old i =
-    old (from_filter (λ (s : Report). not (is_report head.hart head.tag s)) (early ms) r i).0
+    old (from_filter (λ (s : OpenReport). not (is_report head.hart head.tag s)) (early ms) r i).0
 early_cases X ms head b r new old i = old i
 
 -- a byte that is performed was, or is by this message
@@ -149,7 +150,7 @@ done_cases X ms head (body.Insert piece) h t x q new old e = at (is_of head h t 
     at true e = absurd (cc)
     at false e = old e
 done_cases X ms head (body.Write write) h t x q new old e =
-    at (eqb head.hart h && eqb write.line (line_of x)) (fate ms h t x) refl e
+    at (eqb head.hart h && eqb write.line (line_start x)) (fate ms h t x) refl e
   where
     at : (d : Bool) (f : Fate) → fate ms h t x ≡ f → cond d (drained head.time (number_after ms) f) f ≡ Done q → X
     at false f s e = old (s ∙ e)
@@ -175,13 +176,13 @@ module _ (image : Loaded) (before : List Message) where
   longer : (later : List Message) → length before < number_after (later ++ before)
   longer later = let e = length-append later before in omega (arith, e)
 
-  live_since : (later : List Message) (h : ℕ) (r : Report) → In r (live (later ++ before) h)
+  live_since : (later : List Message) (h : ℕ) (r : OpenReport) → In r (live (later ++ before) h)
       → (length before < r.number) ⊎ In r (live before h)
   live_since [] h r i = inr i
   live_since (m ∷ ls) h r i = live_cases _ (ls ++ before) m.head m.body h r
       (λ e. inl (let l = longer ls in omega (arith, l, e))) (live_since ls h r) i
 
-  early_since : (later : List Message) (r : Report) → In r (early (later ++ before))
+  early_since : (later : List Message) (r : OpenReport) → In r (early (later ++ before))
       → (length before < r.number) ⊎ In r (early before)
   early_since [] r i = inr i
   early_since (m ∷ ls) r i = early_cases _ (ls ++ before) m.head m.body r
@@ -205,13 +206,14 @@ module _ (image : Loaded) (before : List Message) where
       (entry_at (Allowed head.hart) head (live (ls ++ before) head.hart) (early (ls ++ before)) of_live of_early
       (stored_at image (ls ++ before) head retire) (doing_at image (ls ++ before) head.hart) e s)
     where
-      of_live : (r : Report) → In r (live (ls ++ before) head.hart) → Allowed head.hart (place_of_report r)
+      of_live : (r : OpenReport) → In r (live (ls ++ before) head.hart) → Allowed head.hart (place_of_report r)
       of_live r i = elim (live_since ls head.hart r i) [
         | inl l ↦ inl l
         | inr j ↦ inr (r, inl (contained _ r j), refl)
       ]
 
-      of_early : (r : Report) → In r (early (ls ++ before)) → r.hart ≡ head.hart → Allowed head.hart (place_of_report r)
+      of_early : (r : OpenReport) → In r (early (ls ++ before)) → r.hart ≡ head.hart
+          → Allowed head.hart (place_of_report r)
       of_early r i own = elim (early_since ls r i) [
         | inl l ↦ inl l
         | inr j ↦ inr (r, inr (contained _ r j, own), refl)

@@ -1,5 +1,6 @@
 pub mod Appends
 pub mod AreEntries
+pub mod Arriving
 pub mod CleanLists
 pub mod Cleaned
 pub mod Early
@@ -12,11 +13,13 @@ pub mod GroupLaws
 pub mod Groups
 pub mod Growing
 pub mod Instructions
+pub mod KeptOps
 pub mod Keys
 pub mod Known
 pub mod LaterPlaces
 pub mod Lists
 pub mod Made
+pub mod Marks
 pub mod Origins
 pub mod OtherHarts
 pub mod Pairs

@@ -16,7 +16,7 @@ use Rattle.rvwmo_model.specs.declared.operations.Op.{Op}
 use Rattle.rvwmo_model.specs.declared.operations.OpKind.{OpKind}
 use Rattle.rvwmo_model.specs.declared.operations.Ann.{Ann}
 use Rattle.rvwmo_model.specs.InForm.{IsPlaced, IsOf}
-use Rattle.matching.specs.declared.reports.Report.{Report}
+use Rattle.matching.specs.declared.reports.OpenReport.{OpenReport}
 use Rattle.matching.specs.Reports.{is_report, counting, early_of, place_counted, place_of_report, live, early}
 use Rattle.matching.specs.declared.run.Pair.{Pair}
 use Rattle.matching.specs.Runs.{run_of, doing_at}
@@ -55,15 +55,15 @@ of_nothing : (e : Entry) → e.memory ≡ Fixed [] → IsEntry e
 of_nothing e q = of_fixed e [] q (λ v i. absurd i) tt
 
 -- the place of a byte that counts
-pub counted_place : (live : List Report) (t addr len : ℕ) (extent : Extent) → extent.addr ≡ addr → extent.len ≡ len
+pub counted_place : (live : List OpenReport) (t addr len : ℕ) (extent : Extent) → extent.addr ≡ addr → extent.len ≡ len
     → IsCounted live t addr len → (k : ℕ) → k < extent.len
-    → (r : Report) × (counting live t (extent.addr + k) ≡ Some r)
+    → (r : OpenReport) × (counting live t (extent.addr + k) ≡ Some r)
 counted_place live t addr len extent a b counted k l =
     let r = counted k (subst (λ (z : ℕ). k < z) b l) in
     (r.0, ap (λ z. counting live t (z + k)) a ∙ r.1)
 
-of_load : (live : List Report) (head : Head) (insn : Insn) (stored : Bool) (extent : Extent)
-    → ((k : ℕ) → k < extent.len → (r : Report) × (counting live head.tag (extent.addr + k) ≡ Some r))
+of_load : (live : List OpenReport) (head : Head) (insn : Insn) (stored : Bool) (extent : Extent)
+    → ((k : ℕ) → k < extent.len → (r : OpenReport) × (counting live head.tag (extent.addr + k) ≡ Some r))
     → IsEntry (entry head insn stored (Fixed (load_ops live head insn extent)))
 of_load live head insn stored extent counted =
     of_fixed (entry head insn stored (Fixed (load_ops live head insn extent))) (load_ops live head insn extent) refl
@@ -93,19 +93,20 @@ of_store head insn extent put s = record {
 }
 
 -- the early Bypass of an instruction is of its hart and tag, and one of the early ones
-pub early_key : (early : List Report) (h t : ℕ) (r : Report) → early_of early h t ≡ Some r → In r early × (r.hart ≡ h)
+pub early_key : (early : List OpenReport) (h t : ℕ) (r : OpenReport) → early_of early h t ≡ Some r
+    → In r early × (r.hart ≡ h)
     × (r.tag ≡ t)
 early_key early h t r e =
     let y = latest_in (is_report h t) early r e in
     let s = and_parts (eqb r.hart h) (eqb r.tag t) y.1 in
     (y.0, eqb-true _ _ s.0, eqb-true _ _ s.1)
 
-of_atomic : (early : List Report) (head : Head) (insn : Insn) (stored : Bool) (k : OpKind) (extent : Extent)
+of_atomic : (early : List OpenReport) (head : Head) (insn : Insn) (stored : Bool) (k : OpKind) (extent : Extent)
     (got : List ℕ) (aq rl : Ann)
     → IsEntry (entry head insn stored (Fixed (atomic_ops k extent got aq rl (early_of early head.hart head.tag))))
 of_atomic early head insn stored k extent got aq rl = at (early_of early head.hart head.tag) refl
   where
-    at : (o : Option Report) → early_of early head.hart head.tag ≡ o
+    at : (o : Option OpenReport) → early_of early head.hart head.tag ≡ o
         → IsEntry (entry head insn stored (Fixed (atomic_ops k extent got aq rl o)))
     at None q = of_nothing _ refl
     at (Some r) q =
@@ -124,7 +125,7 @@ of_atomic early head insn stored k extent got aq rl = at (early_of early head.ha
 is_entry : (f e : Entry) → Some f ≡ Some e → IsEntry f → IsEntry e
 is_entry f e q k = subst IsEntry (let c : f ≡ e = cc in c) k
 
-pub made_entry : (live early : List Report) (pair : Option Pair) (head : Head) (put : List ℕ) (d : Doing)
+pub made_entry : (live early : List OpenReport) (pair : Option Pair) (head : Head) (put : List ℕ) (d : Doing)
     → SuitsDoing live early pair head put d → (e : Entry) → entry_of live early head put d ≡ Some e → IsEntry e
 made_entry live early pair head put (trap cause value) s e q = absurd (cc)
 made_entry live early pair head put (plain insn) s e q = is_entry _ e q (of_nothing _ refl)

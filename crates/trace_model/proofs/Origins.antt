@@ -7,7 +7,7 @@ use Rattle.msg_frames.specs.declared.message.Message.{Message}
 use Rattle.elf_image.specs.Images.{Loaded}
 use Rattle.rvwmo_model.specs.declared.operations.Op.{Op}
 use Rattle.rvwmo_model.specs.Order.{everything}
-use Rattle.matching.specs.declared.reports.Report.{Report}
+use Rattle.matching.specs.declared.reports.OpenReport.{OpenReport}
 use Rattle.matching.specs.Reports.{live, early, place_of_report}
 use Rattle.matching.specs.Fates.{fate}
 use Rattle.trace_model.specs.Entries.{Entry}
@@ -79,7 +79,8 @@ of_read image before h t v q i f r = elim (in_cases (trace_of image before).ops 
 -- no operation has the place of a Read whose instruction has not retired
 pub fresh_place : (image : Loaded) (before : List Message) (h t : ℕ)
     → ((e : Entry) → In e (entries image before) → e.insn.hart ≡ h → e.insn.tag < t)
-    → (r : Report) → In r (live before h) → r.tag ≡ t → (v : Op) → In v (everything (trace_of image before)) → v.place
+    → (r : OpenReport) → In r (live before h) → r.tag ≡ t → (v : Op) → In v (everything (trace_of image before))
+    → v.place
     ≡ Some (place_of_report r) → ⊥
 fresh_place image before h t younger r i tag v j f =
     let y = of_read image before h r.tag v (place_of_report r) j f (live_read before h r i) in

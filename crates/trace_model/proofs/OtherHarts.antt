@@ -13,14 +13,14 @@ use Rattle.msg_frames.specs.declared.message.Message.{Message}
 use Rattle.elf_image.specs.Images.{Loaded}
 use Rattle.rv_step.specs.Steps.{Doing, trap, plain, counter, load, store, lr, sc, amo}
 use Rattle.rvwmo_model.specs.declared.operations.Op.{Op}
-use Rattle.matching.specs.declared.reports.Report.{Report}
+use Rattle.matching.specs.declared.reports.OpenReport.{OpenReport}
 use Rattle.matching.specs.declared.stores.Stored.{Stored}
 use Rattle.matching.specs.declared.stores.Fate.{Fate}
 use Rattle.matching.specs.Settings.{number_after}
 use Rattle.matching.specs.Tags.{is_early}
-use Rattle.matching.specs.Reports.{report_of, is_report, live_in, live, early_in, early, early_of}
+use Rattle.matching.specs.Reports.{open_report_of, is_report, live_in, live, early_in, early, early_of}
 use Rattle.matching.specs.Fates.{fate_in, fate, place_of}
-use Rattle.matching.specs.Stores.{stores_in, stores}
+use Rattle.matching.specs.Stores.{stores_in, retired_stores}
 use Rattle.matching.specs.PartFaults.{fate_at}
 use Rattle.matching.specs.EndFaults.{is_open_store}
 use Rattle.matching.specs.Counts.{reads_of, stores_of}
@@ -68,20 +68,21 @@ module _ (before : List Message) (head : Head) (h : ℕ) (other : eqb head.hart 
   fate_stays _ t x = refl
 
   -- the early Bypasses of the hart
-  abbrev Own : Report → Bool
+  abbrev Own : OpenReport → Bool
   Own r = eqb r.hart h
 
   pub early_stays : (b : Body) → filter Own (early_in before (early before) head b) ≡ filter Own (early before)
   early_stays (body.Bypass piece) = at (is_early before head)
     where
-      at : (c : Bool) → filter Own (cond c (report_of (number_after before) head piece ∷ early before) (early before))
+      at : (c : Bool) → filter Own (cond c (open_report_of (number_after before) head piece ∷ early before)
+          (early before))
           ≡ filter Own (early before)
       at true = rw other refl
       at false = refl
   early_stays (body.Retire retire) =
-      filter_within Own (λ (r : Report). not (is_report head.hart head.tag r)) (early before) (λ r e. apart r e)
+      filter_within Own (λ (r : OpenReport). not (is_report head.hart head.tag r)) (early before) (λ r e. apart r e)
     where
-      apart : (r : Report) → Own r ≡ true → not (is_report head.hart head.tag r) ≡ true
+      apart : (r : OpenReport) → Own r ≡ true → not (is_report head.hart head.tag r) ≡ true
       apart r e = at (eqb r.hart head.hart) refl
         where
           at : (c : Bool) → eqb r.hart head.hart ≡ c → not (c && eqb r.tag head.tag) ≡ true
@@ -90,8 +91,8 @@ module _ (before : List Message) (head : Head) (h : ℕ) (other : eqb head.hart 
               (eq-eqb head.hart h (sym (eqb-true r.hart head.hart q) ∙ eqb-true r.hart h e)))
   early_stays _ = refl
 
-  pub stores_stay : (image : Loaded) (b : Body) → stores_in image before (stores image before h) head b h
-      ≡ stores image before h
+  pub stores_stay : (image : Loaded) (b : Body) → stores_in image before (retired_stores image before h) head b h
+      ≡ retired_stores image before h
   stores_stay image (body.Retire retire) = rw other refl
   stores_stay image _ = refl
 
@@ -107,8 +108,8 @@ module _ (h : ℕ) (p : Op → Bool) (own : (v : Op) → eqb v.name.hart h ≡ f
       at true rec = rec
       at false rec = rw (own (part_at a f (f n)) e) rec
 
-  no_atomic : (k : OpKind) (extent : Extent) (got : List ℕ) (acquire release : Ann) (o : Option Report)
-      → ((r : Report) → o ≡ Some r → eqb r.hart h ≡ false)
+  no_atomic : (k : OpKind) (extent : Extent) (got : List ℕ) (acquire release : Ann) (o : Option OpenReport)
+      → ((r : OpenReport) → o ≡ Some r → eqb r.hart h ≡ false)
       → filter p (atomic_ops k extent got acquire release o) ≡ []
   no_atomic k extent got acquire release None e = refl
   no_atomic k extent got acquire release (Some r) e = rw (own (bypass_op k extent got acquire release r) (e r refl))
@@ -138,7 +139,8 @@ module _ (h : ℕ) (p : Op → Bool) (own : (v : Op) → eqb v.name.hart h ≡ f
 
   -- a Retire of another hart adds none
   module _ (head : Head) (other : eqb head.hart h ≡ false) where
-    bypass_hart : (bs : List Report) (r : Report) → early_of bs head.hart head.tag ≡ Some r → eqb r.hart h ≡ false
+    bypass_hart : (bs : List OpenReport) (r : OpenReport) → early_of bs head.hart head.tag ≡ Some r
+        → eqb r.hart h ≡ false
     bypass_hart bs r e =
         let q = (latest_in (is_report head.hart head.tag) bs r e).1 in
         let s = eqb-true r.hart head.hart (and_parts (eqb r.hart head.hart) (eqb r.tag head.tag) q).0 in
@@ -151,7 +153,8 @@ module _ (h : ℕ) (p : Op → Bool) (own : (v : Op) → eqb v.name.hart h ≡ f
     none_of : (g : Places) (f : Entry) → filter p (entry_ops g f) ≡ [] → AddsNone g (Some f)
     none_of g f n e q = subst (λ (z : Entry). filter p (entry_ops g z) ≡ []) (let c : f ≡ e = cc in c) n
 
-    new_none : (g : Places) (rs bs : List Report) (put : List ℕ) (d : Doing) → AddsNone g (entry_of rs bs head put d)
+    new_none : (g : Places) (rs bs : List OpenReport) (put : List ℕ) (d : Doing)
+        → AddsNone g (entry_of rs bs head put d)
     new_none g rs bs put (trap cause value) = λ e q. absurd (cc)
     new_none g rs bs put (plain insn) = none_of g _ refl
     new_none g rs bs put (counter insn) = none_of g _ refl
@@ -207,7 +210,8 @@ module _ (image : Loaded) (before : List Message) (m : Message) (h : ℕ) (other
 
   pub stores_other : stores_of image (m ∷ before) h ≡ stores_of image before h
   stores_other =
-      ap (λ (f : Stored → ℕ → Fate). length (filter (λ (s : Stored). is_open_store f s) (stores image (m ∷ before) h)))
+      ap (λ (f : Stored → ℕ → Fate). length (filter (λ (s : Stored). is_open_store f s) (retired_stores image
+      (m ∷ before) h)))
       fates_same
       ∙ ap (λ (ss : List Stored). length (filter (λ (s : Stored). is_open_store (fate_at before h) s) ss))
       (stores_stay before m.head h other image m.body)

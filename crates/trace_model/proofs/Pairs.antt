@@ -15,7 +15,7 @@ use Rattle.rv_step.specs.Steps.{Doing, trap, plain, counter, load, store, lr, sc
 use Rattle.rvwmo_model.specs.declared.operations.Op.{Op}
 use Rattle.rvwmo_model.specs.Order.{has_byte}
 use Rattle.rv_decode.specs.Kinds.{is_lr}
-use Rattle.matching.specs.declared.reports.Report.{Report}
+use Rattle.matching.specs.declared.reports.OpenReport.{OpenReport}
 use Rattle.matching.specs.declared.run.Pair.{Pair}
 use Rattle.matching.specs.Reports.{live, early, early_of, counting, place_counted}
 use Rattle.matching.specs.Runs.{run_in, run_of, run_poked, run_retired, doing_at, pair_after}
@@ -67,7 +67,7 @@ pub record IsLrOp (ops : List Op) (addr len : ℕ) (o : Op) : Type 0 where
   pub one : ops ≡ o ∷ []
   pub whole : (x : ℕ) → addr ≤ x → x < addr + len → has_byte x o ≡ true
 
-module _ (live : List Report) (head : Head) (insn : Insn) (addr len : ℕ) (extent : Extent) (a : extent.addr ≡ addr)
+module _ (live : List OpenReport) (head : Head) (insn : Insn) (addr len : ℕ) (extent : Extent) (a : extent.addr ≡ addr)
     (b : extent.len ≡ len) (one : IsOneRead live head.tag addr len) where
   abbrev access : Access
   access = load_access live head insn extent
@@ -90,7 +90,7 @@ module _ (live : List Report) (head : Head) (insn : Insn) (addr len : ℕ) (exte
         ) (rw (one_read (x - extent.addr) i) (same_self (places 0)));
   }
 
-module _ (es : List Entry) (live early : List Report) (pair : Option Pair) (head : Head) (put : List ℕ)
+module _ (es : List Entry) (live early : List OpenReport) (pair : Option Pair) (head : Head) (put : List ℕ)
     (younger : (e : Entry) → In e es → e.insn.hart ≡ head.hart → e.insn.tag < head.tag)
     (old : (p : Pair) → pair ≡ Some p → HasLr es head.hart p) where
   -- an instruction that reserves nothing leaves the pair

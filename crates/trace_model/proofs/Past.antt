@@ -17,7 +17,7 @@ use Rattle.rvwmo_model.specs.declared.operations.OpKind.{OpKind}
 use Rattle.rvwmo_model.specs.declared.operations.Ann.{Ann}
 use Rattle.rvwmo_model.specs.Order.{everything}
 use Rattle.matching.specs.declared.stores.Fate.{Fate}
-use Rattle.matching.specs.declared.reports.Report.{Report}
+use Rattle.matching.specs.declared.reports.OpenReport.{OpenReport}
 use Rattle.matching.specs.declared.stores.Fate.TheVariants.{Nothing, Waiting, Done}
 use Rattle.matching.specs.Searches.{latest}
 use Rattle.matching.specs.Settings.{number_after, last_time}
@@ -61,14 +61,15 @@ fate_past = fate_all WasPast (record {
   bypass = λ before head piece c. (omega arith, omega arith);
 })
 
-pub live_past : (before : List Message) (h : ℕ) (r : Report) → In r (live before h) → WasPast before (place_of_report r)
+pub live_past : (before : List Message) (h : ℕ) (r : OpenReport) → In r (live before h)
+    → WasPast before (place_of_report r)
     × (r.hart ≡ h)
 live_past = live_all (λ before h r. WasPast before (place_of_report r) × (r.hart ≡ h)) (record {
   on = λ before m h r y. (past_on before m (place_of_report r) y.0, y.1);
   read = λ before head piece. (λ c. (omega arith, omega arith), refl);
 })
 
-pub early_past : (before : List Message) (r : Report) → In r (early before) → WasPast before (place_of_report r)
+pub early_past : (before : List Message) (r : OpenReport) → In r (early before) → WasPast before (place_of_report r)
 early_past = early_all (λ before r. WasPast before (place_of_report r)) (record {
   on = λ before m r y. past_on before m (place_of_report r) y;
   bypass = λ before head piece e c. (omega arith, omega arith);
@@ -82,13 +83,14 @@ IsFixedAt P m = (ops : List Op) (v : Op) (q : Place) → m ≡ Fixed ops → In 
 
 -- what P says of the places of the instruction's live Reads and of early Bypasses it says of the operations made of
 -- them
-module _ (P : Place → Type 0) (head : Head) (rs bs : List Report) (live_p : (r : Report) → In r rs → r.tag ≡ head.tag
+module _ (P : Place → Type 0) (head : Head) (rs bs : List OpenReport) (live_p : (r : OpenReport) → In r rs
+    → r.tag ≡ head.tag
     → P (place_of_report r))
-    (early_p : (r : Report) → In r bs → P (place_of_report r)) where
+    (early_p : (r : OpenReport) → In r bs → P (place_of_report r)) where
   counted_at : (x : ℕ) (q : Place) → place_counted (counting rs head.tag x) ≡ Some q → P q
   counted_at x q e = at (counting rs head.tag x) refl e
     where
-      at : (o : Option Report) → counting rs head.tag x ≡ o → place_counted o ≡ Some q → P q
+      at : (o : Option OpenReport) → counting rs head.tag x ≡ o → place_counted o ≡ Some q → P q
       at None f e = absurd (cc)
       at (Some r) f e =
           let y = latest_in (is_for head.tag x) rs r f in
@@ -102,13 +104,13 @@ module _ (P : Place → Type 0) (head : Head) (rs bs : List Report) (live_p : (r
       (subst (λ (z : List Op). In v z) l i) in
       counted_at (extent.addr + y.0) q (sym (ap (λ (z : Op). z.place) y.2) ∙ f)
 
-  atomic_at : (p : Report → Bool) (k : OpKind) (extent : Extent) (got : List ℕ) (aq rl : Ann)
+  atomic_at : (p : OpenReport → Bool) (k : OpKind) (extent : Extent) (got : List ℕ) (aq rl : Ann)
       → IsFixedAt P (Fixed (atomic_ops k extent got aq rl (latest p bs)))
   atomic_at p k extent got aq rl ops v q d i f =
       let l : ops ≡ atomic_ops k extent got aq rl (latest p bs) = cc in
       at (latest p bs) refl (subst (λ (z : List Op). In v z) l i)
     where
-      at : (o : Option Report) → latest p bs ≡ o → In v (atomic_ops k extent got aq rl o) → P q
+      at : (o : Option OpenReport) → latest p bs ≡ o → In v (atomic_ops k extent got aq rl o) → P q
       at None s i = absurd i
       at (Some r) s (inr i) = absurd i
       at (Some r) s (inl e) =
@@ -135,8 +137,10 @@ module _ (P : Place → Type 0) (head : Head) (rs bs : List Report) (live_p : (r
 -- what holds of live Reads for their instruction, and of early Bypasses, and goes on, holds of these operations
 pub record OnEntry (Q : List Message → ℕ → ℕ → Place → Type 0) : Type 0 where
   pub on : (before : List Message) (m : Message) (h t : ℕ) (q : Place) → Q before h t q → Q (m ∷ before) h t q
-  pub read : (before : List Message) (h : ℕ) (r : Report) → In r (live before h) → Q before h r.tag (place_of_report r)
-  pub bypass : (before : List Message) (h t : ℕ) (r : Report) → In r (early before) → Q before h t (place_of_report r)
+  pub read : (before : List Message) (h : ℕ) (r : OpenReport) → In r (live before h)
+      → Q before h r.tag (place_of_report r)
+  pub bypass : (before : List Message) (h t : ℕ) (r : OpenReport) → In r (early before)
+      → Q before h t (place_of_report r)
 
 module _ (Q : List Message → ℕ → ℕ → Place → Type 0) (c : OnEntry Q) where
   pub entries_all : (image : Loaded) (before : List Message) (e : Entry) → In e (entries image before)

@@ -12,7 +12,7 @@ use Rattle.msg_frames.specs.declared.message.Body.TheVariants as body
 use Rattle.msg_frames.specs.declared.message.Message.{Message}
 use Rattle.elf_image.specs.Images.{Loaded}
 use Rattle.rvwmo_model.specs.declared.operations.Op.{Op}
-use Rattle.matching.specs.declared.reports.Report.{Report}
+use Rattle.matching.specs.declared.reports.OpenReport.{OpenReport}
 use Rattle.matching.specs.declared.stores.Fate.TheVariants.{Done}
 use Rattle.matching.specs.Settings.{number_after, last_time}
 use Rattle.matching.specs.Reports.{live, early, place_of_report}
@@ -58,14 +58,14 @@ fate_message = fate_all HasMessage (record {
   bypass = λ before head piece. new_message before head (body.Bypass piece) (number_after before);
 })
 
-live_message : (before : List Message) (h : ℕ) (r : Report) → In r (live before h)
+live_message : (before : List Message) (h : ℕ) (r : OpenReport) → In r (live before h)
     → HasMessage before (place_of_report r)
 live_message = live_all (λ before h r. HasMessage before (place_of_report r)) (record {
   on = λ before m h r y. message_more before m (place_of_report r) y;
   read = λ before head piece. new_message before head (body.Read piece) (number_after before);
 })
 
-early_message : (before : List Message) (r : Report) → In r (early before) → HasMessage before (place_of_report r)
+early_message : (before : List Message) (r : OpenReport) → In r (early before) → HasMessage before (place_of_report r)
 early_message = early_all (λ before r. HasMessage before (place_of_report r)) (record {
   on = λ before m r y. message_more before m (place_of_report r) y;
   bypass = λ before head piece e. new_message before head (body.Bypass piece) (number_after before);

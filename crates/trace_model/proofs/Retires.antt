@@ -17,7 +17,7 @@ use Rattle.rvwmo_model.specs.ProgramOrder.{insn_at}
 use Rattle.rvwmo_model.specs.InForm.{AreRising, IsPlaced, IsWhole}
 use Rattle.trace_model.proofs.Lists.{in_left, in_right, in_cases}
 use Rattle.rv_decode.specs.Kinds.{is_store}
-use Rattle.growth_laws.specs.Kinds.{kind_of, IsPlainAnnotated, IsNamed}
+use Rattle.growth_laws.specs.Kinds.{kind_of_retired, IsPlainAnnotated, IsNamed}
 use Rattle.rvwmo_model.proofs.Extents.{bounds_of}
 use Rattle.growth_laws.specs.Growth.{SameMembers, AreOf, AddsLoads, AddsStore, Adds, AddInsn}
 use Rattle.trace_model.specs.Groups.{Access, same_place, part_at, parts_below, parts_of}
@@ -105,7 +105,7 @@ one_place a f q (suc (suc n)) all some =
     (one_place a f q (suc n) (λ k l. all k (omega (arith, l))) (omega arith))
 
 module _ (a : Access) (f : ℕ → Option Place) (r : Retired) (hart : a.hart ≡ r.hart) (tag : a.tag ≡ r.tag)
-    (kinds : kind_of r ≡ Some a.kind)
+    (kinds : kind_of_retired r ≡ Some a.kind)
     (got : length a.got ≡ a.extent.len) (put : length a.put ≡ a.extent.len) where
   -- what holds of each part holds of each operation
   each : (P : Op → Type 0) → ((k : ℕ) → k < a.extent.len → P (part_at a f (f k))) → (v : Op) → In v (parts_of a f) → P v
@@ -130,7 +130,7 @@ module _ (a : Access) (f : ℕ → Option Place) (r : Retired) (hart : a.hart �
   pub are_of : AreOf r (parts_of a f)
   are_of = record {
     own = λ v h. each (λ v. (v.name.hart ≡ r.hart) × (v.name.tag ≡ r.tag)) (λ k l. (hart, tag)) v (listed _ v h);
-    kinds = λ v h. each (λ v. kind_of r ≡ Some v.kind) (λ k l. kinds) v (listed _ v h);
+    kinds = λ v h. each (λ v. kind_of_retired r ≡ Some v.kind) (λ k l. kinds) v (listed _ v h);
     whole = λ v h. each IsWhole (λ k l. whole_op a (λ j. same_place (f j) (f k)) (f k) k l (passes k) got put) v
         (listed _ v h);
     parts = λ v h. each IsNamed (λ k l. named_op a (λ j. same_place (f j) (f k)) (f k) k l (passes k)) v (listed _ v h);
@@ -143,7 +143,7 @@ module _ (a : Access) (f : ℕ → Option Place) (r : Retired) (hart : a.hart �
   -- a load: each byte was performed, at a place of no operation before
   module _ (t t' : Trace) (new_only : (v : Op) → In v (everything t') → In v (parts_of a f) ⊎ In v (everything t))
       (early : SameMembers t.early t'.early)
-      (loads : kind_of r ≡ Some kind.Load) (placed : (k : ℕ) → k < a.extent.len → (p : Place) × (f k ≡ Some p))
+      (loads : kind_of_retired r ≡ Some kind.Load) (placed : (k : ℕ) → k < a.extent.len → (p : Place) × (f k ≡ Some p))
       (fresh : (v : Op) (k : ℕ) → In v (everything t) → k < a.extent.len → v.place ≡ f k → ⊥)
       (reserves : is_lr r.insn ≡ true → ((k : ℕ) → k < a.extent.len → f k ≡ f 0)
       × (0 < t'.granule → IsAligned a.extent)) (granule : t'.granule ≡ t.granule) where

@@ -22,13 +22,13 @@ use Rattle.rvwmo_model.specs.InForm.{AreRising, IsOf, IsWhole}
 use Rattle.rv_decode.specs.Kinds.{is_lr, is_sc, is_amo_or_sc}
 use Rattle.rvwmo_model.specs.InsnKinds.{has_stored}
 use Rattle.rvwmo_model.specs.Annotations.{is_rcsc}
-use Rattle.rvwmo_model.specs.Atomicity.{IsPair, IsWithin}
+use Rattle.rvwmo_model.specs.Atomicity.{IsPair, IsCoveredBy}
 use Rattle.rvwmo_model.specs.ProgramOrder.{insn_at, is_one}
 use Rattle.rvwmo_model.proofs.Membership.{nothing_in}
 use Rattle.rvwmo_model.proofs.LookUp.{found_in, named_self}
-use Rattle.growth_laws.specs.Kinds.{kind_of_insn, kind_of, IsNamed}
+use Rattle.growth_laws.specs.Kinds.{kind_of_insn, kind_of_retired, IsNamed}
 use Rattle.growth_laws.specs.Growth.{SameMembers, AreOf, Adds, adds_loads, adds_store, adds_atomic, adds_nothing}
-use Rattle.matching.specs.declared.reports.Report.{Report}
+use Rattle.matching.specs.declared.reports.OpenReport.{OpenReport}
 use Rattle.matching.specs.declared.run.Pair.{Pair}
 use Rattle.matching.specs.Searches.{latest}
 use Rattle.matching.specs.Reports.{is_report, early_of, is_for, counting, place_of_report, place_counted, byte_counted}
@@ -56,19 +56,20 @@ use Rattle.trace_model.proofs.Tags.{other_tag, from_insn}
 
 -- ---- small things
 
-pub counted_length : (live : List Report) (t addr n : ℕ) → length (bytes_counted live t addr n) ≡ n
+pub counted_length : (live : List OpenReport) (t addr n : ℕ) → length (bytes_counted live t addr n) ≡ n
 counted_length live t addr zero = refl
 counted_length live t addr (suc n) =
     length-append (bytes_counted live t addr n) (byte_counted (addr + n) (counting live t (addr + n)) ∷ [])
     ∙ (let e = counted_length live t addr n in let s : length (bytes_counted live t addr n) + 1 ≡ suc n =
     omega (arith, e) in s)
 
-latest_none : (p : Report → Bool) (rs : List Report) → latest p rs ≡ None → (r : Report) → In r rs → p r ≡ false
+latest_none : (p : OpenReport → Bool) (rs : List OpenReport) → latest p rs ≡ None → (r : OpenReport) → In r rs
+    → p r ≡ false
 latest_none p [] e r i = absurd i
 latest_none p (s ∷ rs) e r i = at (p s) refl e i (latest_none p rs)
   where
     at : (c : Bool) → p s ≡ c → cond c (Some s) (latest p rs) ≡ None → In r (s ∷ rs)
-        → (latest p rs ≡ None → (r : Report) → In r rs → p r ≡ false) → p r ≡ false
+        → (latest p rs ≡ None → (r : OpenReport) → In r rs → p r ≡ false) → p r ≡ false
     at true q e i rec = absurd (cc)
     at false q e (inl same) rec = ap p same ∙ q
     at false q e (inr j) rec = rec e r j
@@ -88,12 +89,12 @@ aligned_of addr len extent a b m (inr w) = (
 
 -- ---- the trace before and after
 
-module _ (es : List Entry) (g : Places) (live early : List Report) (pair : Option Pair) (granule : ℕ) (head : Head)
+module _ (es : List Entry) (g : Places) (live early : List OpenReport) (pair : Option Pair) (granule : ℕ) (head : Head)
     (put : List ℕ) (good : AreEntries es)
     (younger : (e : Entry) → In e es → e.insn.hart ≡ head.hart → e.insn.tag < head.tag)
-    (older : (r : Report) → In r early → r.hart ≡ head.hart → head.tag ≤ r.tag) where
-  abbrev others : List Report
-  others = filter (λ (r : Report). not (is_report head.hart head.tag r)) early
+    (older : (r : OpenReport) → In r early → r.hart ≡ head.hart → head.tag ≤ r.tag) where
+  abbrev others : List OpenReport
+  others = filter (λ (r : OpenReport). not (is_report head.hart head.tag r)) early
 
   abbrev t : Trace
   t = built es g (map early_op early) granule
@@ -115,7 +116,7 @@ module _ (es : List Entry) (g : Places) (live early : List Report) (pair : Optio
   older_ops : (v : Op) → In v (map early_op others) → v.name.hart ≡ head.hart → head.tag < v.name.tag
   older_ops v i h =
       let y = from_map early_op others v i in
-      let f = from_filter (λ (r : Report). not (is_report head.hart head.tag r)) early y.0 y.1 in
+      let f = from_filter (λ (r : OpenReport). not (is_report head.hart head.tag r)) early y.0 y.1 in
       let hart : y.0.hart ≡ head.hart = sym (ap (λ (z : Op). z.name.hart) y.2) ∙ h in
       let l = other_tag head y.0 (older y.0 f.0 hart) (eq-eqb _ _ (sym hart)) f.1 in
       let k = ap (λ (z : Op). z.name.tag) y.2 in
@@ -162,7 +163,7 @@ module _ (es : List Entry) (g : Places) (live early : List Report) (pair : Optio
   }
 
   pub adds_none : (insn : Insn) (stored : Bool) → IsEntry (entry head insn stored (Fixed []))
-      → kind_of (entry head insn stored (Fixed [])).insn ≡ None → HasNone early head
+      → kind_of_retired (entry head insn stored (Fixed [])).insn ≡ None → HasNone early head
       → Grown (Some (entry head insn stored (Fixed [])))
   adds_none insn stored k nothing none =
       more insn stored (Fixed []) k (nothing_of (entry head insn stored (Fixed [])).insn)
@@ -170,9 +171,10 @@ module _ (es : List Entry) (g : Places) (live early : List Report) (pair : Optio
 
   -- ---- loads
 
-  module _ (fresh : (r : Report) → In r live → r.tag ≡ head.tag → (v : Op) → In v (everything t) → v.place
+  module _ (fresh : (r : OpenReport) → In r live → r.tag ≡ head.tag → (v : Op) → In v (everything t) → v.place
       ≡ Some (place_of_report r) → ⊥) (insn : Insn) (extent : Extent)
-      (counted : (k : ℕ) → k < extent.len → (r : Report) × (counting live head.tag (extent.addr + k) ≡ Some r)) where
+      (counted : (k : ℕ) → k < extent.len → (r : OpenReport) × (counting live head.tag (extent.addr + k)
+      ≡ Some r)) where
     abbrev access : Access
     access = load_access live head insn extent
 
@@ -199,7 +201,7 @@ module _ (es : List Entry) (g : Places) (live early : List Report) (pair : Optio
       | inr a ↦ inr (in_right t.ops (map early_op early) v (others_back early head.hart head.tag v a))
     ]
 
-    pub adds_a_load : IsEntry e → HasNone early head → kind_of e.insn ≡ Some kind.Load
+    pub adds_a_load : IsEntry e → HasNone early head → kind_of_retired e.insn ≡ Some kind.Load
         → (is_lr insn ≡ true → ((k : ℕ) → k < extent.len → places k ≡ places 0) × (0 < granule → IsAligned extent))
         → Grown (Some e)
     adds_a_load k none loads reserved =
@@ -233,7 +235,7 @@ module _ (es : List Entry) (g : Places) (live early : List Report) (pair : Optio
 
   -- ---- AMOs and SCs that succeeded
 
-  module _ (insn : Insn) (stored : Bool) (k : OpKind) (extent : Extent) (got : List ℕ) (aq rl : Ann) (b : Report)
+  module _ (insn : Insn) (stored : Bool) (k : OpKind) (extent : Extent) (got : List ℕ) (aq rl : Ann) (b : OpenReport)
       (is : early_of early head.hart head.tag ≡ Some b)
       (over : early_extent b ≡ extent) (got_len : length got ≡ extent.len) (put_len : length b.piece.bytes ≡ extent.len)
       (kinds : kind_of_insn insn stored ≡ Some k) where
@@ -263,8 +265,8 @@ module _ (es : List Entry) (g : Places) (live early : List Report) (pair : Optio
         only v h = elim (listed (o ∷ []) v h) [ inl e ↦ e | inr i ↦ absurd i ]
 
     pub adds_an_atomic : IsEntry atomic_entry → is_amo_or_sc insn ≡ true
-        → ((r : Report) → In r early → is_report head.hart head.tag r ≡ true → r ≡ b)
-        → (is_sc insn ≡ true → (l : Op) × IsPair (after (Some atomic_entry)) l o × IsWithin o l)
+        → ((r : OpenReport) → In r early → is_report head.hart head.tag r ≡ true → r ≡ b)
+        → (is_sc insn ≡ true → (l : Op) × IsPair (after (Some atomic_entry)) l o × IsCoveredBy o l)
         → Grown (Some atomic_entry)
     adds_an_atomic made atomic one pairs =
         more insn stored (Fixed (o ∷ [])) made atomic_of
@@ -330,16 +332,16 @@ module _ (es : List Entry) (g : Places) (live early : List Report) (pair : Optio
       }
 
       pub is_within : (addr len : ℕ) → extent.addr ≡ addr → extent.len ≡ len → p.addr ≤ addr → addr + len ≤ p.addr
-          + p.len → IsWithin o l.op
+          + p.len → IsCoveredBy o l.op
       is_within addr len a c lo hi x h =
           let y = covers_parts (bypass_access k extent got aq rl b) (λ j. true) (Some (place_of_report b)) x h in
           l.whole x (let m = y.0.0 in omega (arith, m, a, lo)) (let m = y.0.1 in omega (arith, m, a, c, hi))
 
   -- ---- all of them
 
-  module _ (fresh : (r : Report) → In r live → r.tag ≡ head.tag → (v : Op) → In v (everything t) → v.place
+  module _ (fresh : (r : OpenReport) → In r live → r.tag ≡ head.tag → (v : Op) → In v (everything t) → v.place
       ≡ Some (place_of_report r) → ⊥)
-      (one : (q r : Report) → In q early → In r early → q.hart ≡ r.hart → q.tag ≡ r.tag → q ≡ r)
+      (one : (q r : OpenReport) → In q early → In r early → q.hart ≡ r.hart → q.tag ≡ r.tag → q ≡ r)
       (unperformed : (x : ℕ) → g head.hart head.tag x ≡ None)
       (paired : (p : Pair) → pair ≡ Some p → HasLr es head.hart p) where
     abbrev Grows : Doing → Type 0
@@ -349,14 +351,14 @@ module _ (es : List Entry) (g : Places) (live early : List Report) (pair : Optio
         ≡ Some e → IsEntry e
     made_of = made_entry live early pair head put
 
-    only_bypass : (b : Report) → early_of early head.hart head.tag ≡ Some b → (r : Report) → In r early
+    only_bypass : (b : OpenReport) → early_of early head.hart head.tag ≡ Some b → (r : OpenReport) → In r early
         → is_report head.hart head.tag r ≡ true → r ≡ b
     only_bypass b is r i q =
         let k = early_key early head.hart head.tag b is in
         let s = and_parts (eqb r.hart head.hart) (eqb r.tag head.tag) q in
         one r b i k.0 (eqb-true _ _ s.0 ∙ sym k.1) (eqb-true _ _ s.1 ∙ sym k.2)
 
-    over_is : (b : Report) (addr len : ℕ) → IsOver addr len b → early_extent b ≡ extent_of addr len
+    over_is : (b : OpenReport) (addr len : ℕ) → IsOver addr len b → early_extent b ≡ extent_of addr len
     over_is b addr len v = λ i. extent_of (v.0 i) (v.1 i)
 
     amo_grows : (insn : Insn) (addr len : ℕ) → SuitsDoing live early pair head put (amo insn addr len)
@@ -366,18 +368,18 @@ module _ (es : List Entry) (g : Places) (live early : List Report) (pair : Optio
         let is = amo_kind insn s.1 in
         let b = s.0 in
         let got : List ℕ = bytes_counted live head.tag (extent_of addr len).addr (extent_of addr len).len in
-        subst (λ (r : Option Report). Grown (Some (entry head insn false
+        subst (λ (r : Option OpenReport). Grown (Some (entry head insn false
         (Fixed (atomic_ops kind.Both (extent_of addr len) got (acquire_of insn) (release_of insn) r))))) (sym b.is)
         (adds_an_atomic insn false kind.Both (extent_of addr len) got (acquire_of insn) (release_of insn) b.report b.is
         (over_is b.report addr len b.over)
         (counted_length live head.tag (extent_of addr len).addr (extent_of addr len).len) (b.over.1 ∙ sym x.len_is)
         is.both
-        (made_of (amo insn addr len) s _ (ap (λ (r : Option Report). Some
+        (made_of (amo insn addr len) s _ (ap (λ (r : Option OpenReport). Some
         (entry head insn false (Fixed (atomic_ops kind.Both (extent_of addr len) got (acquire_of insn)
         (release_of insn) r)))) b.is))
         is.atomic (only_bypass b.report b.is) (λ q. absurd (both_ways _ is.no_sc q)))
 
-    abbrev sc_at : Insn → Extent → Option Report → Entry
+    abbrev sc_at : Insn → Extent → Option OpenReport → Entry
     sc_at insn extent r = entry head insn (is_some r) (Fixed
         (atomic_ops kind.Store extent (replicate extent.len 0) (acquire_of insn) (release_of insn) r))
 
@@ -387,9 +389,9 @@ module _ (es : List Entry) (g : Places) (live early : List Report) (pair : Optio
       where
         at : (early_of early head.hart head.tag ≡ None) ⊎ SuitsSc early pair head addr len → Grows (sc insn addr len)
         at (inl none) =
-            subst (λ (r : Option Report). Grown (Some (sc_at insn (extent_of addr len) r))) (sym none)
+            subst (λ (r : Option OpenReport). Grown (Some (sc_at insn (extent_of addr len) r))) (sym none)
             (adds_none insn false (made_of (sc insn addr len) s _
-            (ap (λ (r : Option Report). Some (sc_at insn (extent_of addr len) r)) none)) (sc_kind insn s.1).failed
+            (ap (λ (r : Option OpenReport). Some (sc_at insn (extent_of addr len) r)) none)) (sc_kind insn s.1).failed
             (latest_none (is_report head.hart head.tag) early none))
         at (inr y) =
             let x = extent_is addr len s.2 in
@@ -397,11 +399,11 @@ module _ (es : List Entry) (g : Places) (live early : List Report) (pair : Optio
             let b = y.bypass in
             let l = paired y.paired.lr y.paired.is in
             let made = made_of (sc insn addr len) s _ (ap
-            (λ (r : Option Report). Some (sc_at insn (extent_of addr len) r)) b.is) in
+            (λ (r : Option OpenReport). Some (sc_at insn (extent_of addr len) r)) b.is) in
             let over = over_is b.report addr len b.over in
             let got = length-replicate (extent_of addr len).len 0 in
             let size = b.over.1 ∙ sym x.len_is in
-            subst (λ (r : Option Report). Grown (Some (sc_at insn (extent_of addr len) r))) (sym b.is)
+            subst (λ (r : Option OpenReport). Grown (Some (sc_at insn (extent_of addr len) r))) (sym b.is)
             (adds_an_atomic insn true kind.Store (extent_of addr len) (replicate (extent_of addr len).len 0)
             (acquire_of insn) (release_of insn) b.report b.is over got size is.stored
             made is.atomic (only_bypass b.report b.is)

@@ -12,7 +12,7 @@ use Rattle.rv_step.specs.Steps.{Doing, trap, plain, counter, load, store, lr, sc
 use Rattle.rv_decode.specs.Kinds.{is_load, is_store, is_lr, is_sc, is_amo}
 use Rattle.rv_step.specs.Promises.{is_plain, reads_counter}
 use Rattle.matching.specs.declared.run.Pair.{Pair}
-use Rattle.matching.specs.declared.reports.Report.{Report}
+use Rattle.matching.specs.declared.reports.OpenReport.{OpenReport}
 use Rattle.matching.specs.Settings.{last_time}
 use Rattle.matching.specs.Pieces.{has}
 use Rattle.matching.specs.Tags.{is_early, is_younger, last_tag}
@@ -52,8 +52,8 @@ pub record SuitsPlain (image : Loaded) (before : List Message) (head : Head) (pi
   pub known : IsKnown (entries image before) head piece
 
 -- no Bypass of that instruction is early
-abbrev pub HasNone : List Report → Head → Type 0
-HasNone early head = (r : Report) → In r early → is_report head.hart head.tag r ≡ false
+abbrev pub HasNone : List OpenReport → Head → Type 0
+HasNone early head = (r : OpenReport) → In r early → is_report head.hart head.tag r ≡ false
 
 -- an early Bypass: it is an access, and the first of its instruction
 pub record SuitsEarly (before : List Message) (head : Head) (piece : Piece) : Type 0 where
@@ -63,23 +63,23 @@ pub record SuitsEarly (before : List Message) (head : Head) (piece : Piece) : Ty
 -- ---- Retires
 
 -- each byte has a Read that counts
-abbrev pub IsCounted : List Report → ℕ → ℕ → ℕ → Type 0
-IsCounted live t addr len = (k : ℕ) → k < len → (r : Report) × (counting live t (addr + k) ≡ Some r)
+abbrev pub IsCounted : List OpenReport → ℕ → ℕ → ℕ → Type 0
+IsCounted live t addr len = (k : ℕ) → k < len → (r : OpenReport) × (counting live t (addr + k) ≡ Some r)
 
 -- all bytes have one
-abbrev pub IsOneRead : List Report → ℕ → ℕ → ℕ → Type 0
+abbrev pub IsOneRead : List OpenReport → ℕ → ℕ → ℕ → Type 0
 IsOneRead live t addr len = (k : ℕ) → k < len → counting live t (addr + k) ≡ counting live t (addr + 0)
 
 -- the Bypass is over just these bytes
-abbrev pub IsOver : ℕ → ℕ → Report → Type 0
+abbrev pub IsOver : ℕ → ℕ → OpenReport → Type 0
 IsOver addr len r = (r.piece.addr ≡ addr) × (length r.piece.bytes ≡ len)
 
-pub record SuitsLoad (live early : List Report) (head : Head) (addr len : ℕ) : Type 0 where
+pub record SuitsLoad (live early : List OpenReport) (head : Head) (addr len : ℕ) : Type 0 where
   pub sized : is_extent addr len ≡ true
   pub none : HasNone early head
   pub counted : IsCounted live head.tag addr len
 
-pub record SuitsLr (live early : List Report) (head : Head) (addr len : ℕ) : Type 0 where
+pub record SuitsLr (live early : List OpenReport) (head : Head) (addr len : ℕ) : Type 0 where
   pub sized : is_extent addr len ≡ true
   pub none : HasNone early head
   pub counted : IsCounted live head.tag addr len
@@ -87,14 +87,14 @@ pub record SuitsLr (live early : List Report) (head : Head) (addr len : ℕ) : T
   pub aligned : addr % len ≡ 0
   pub width : (len ≡ 4) ⊎ (len ≡ 8)
 
-pub record SuitsStore (early : List Report) (head : Head) (put : List ℕ) (addr len : ℕ) : Type 0 where
+pub record SuitsStore (early : List OpenReport) (head : Head) (put : List ℕ) (addr len : ℕ) : Type 0 where
   pub sized : is_extent addr len ≡ true
   pub none : HasNone early head
   pub stored : length put ≡ len
 
 -- the early Bypass of an instruction is over just its bytes
-pub record HasOver (early : List Report) (head : Head) (addr len : ℕ) : Type 0 where
-  pub report : Report
+pub record HasOver (early : List OpenReport) (head : Head) (addr len : ℕ) : Type 0 where
+  pub report : OpenReport
   pub is : early_of early head.hart head.tag ≡ Some report
   pub over : IsOver addr len report
 
@@ -106,12 +106,12 @@ pub record IsInPair (pair : Option Pair) (addr len : ℕ) : Type 0 where
   pub last : addr + len ≤ lr.addr + lr.len
 
 -- an SC that succeeds has its Bypass and its pair
-pub record SuitsSc (early : List Report) (pair : Option Pair) (head : Head) (addr len : ℕ) : Type 0 where
+pub record SuitsSc (early : List OpenReport) (pair : Option Pair) (head : Head) (addr len : ℕ) : Type 0 where
   pub bypass : HasOver early head addr len
   pub paired : IsInPair pair addr len
 
 -- what an instruction is to do suits what was reported
-abbrev pub SuitsDoing : List Report → List Report → Option Pair → Head → List ℕ → Doing → Type 0
+abbrev pub SuitsDoing : List OpenReport → List OpenReport → Option Pair → Head → List ℕ → Doing → Type 0
 SuitsDoing live early pair head put (trap cause value) = HasNone early head
 SuitsDoing live early pair head put (plain insn) = HasNone early head × (is_plain insn ≡ true)
 SuitsDoing live early pair head put (counter insn) = HasNone early head × (reads_counter insn ≡ true)
@@ -127,7 +127,7 @@ SuitsDoing live early pair head put (amo insn addr len) =
 -- a Retire: its tag is above the last one of its hart, and not above those of its early Bypasses
 pub record SuitsRetire (image : Loaded) (before : List Message) (head : Head) (retire : Retire) : Type 0 where
   pub younger : is_younger (last_tag before head.hart) head.tag ≡ true
-  pub older : (r : Report) → In r (early before) → r.hart ≡ head.hart → head.tag ≤ r.tag
+  pub older : (r : OpenReport) → In r (early before) → r.hart ≡ head.hart → head.tag ≤ r.tag
   pub doing : SuitsDoing (live before head.hart) (early before) (run_of image before head.hart).pair head
       (stored_at image before head retire) (doing_at image before head.hart)
 

@@ -10,10 +10,10 @@ use Rattle.msg_frames.specs.declared.message.Body.TheVariants as body
 use Rattle.msg_frames.specs.declared.message.Message.{Message}
 use Rattle.elf_image.specs.Images.{Loaded}
 use Rattle.rvwmo_model.specs.declared.instructions.Retired.{Retired}
-use Rattle.matching.specs.declared.reports.Report.{Report}
+use Rattle.matching.specs.declared.reports.OpenReport.{OpenReport}
 use Rattle.matching.specs.Settings.{number_after}
 use Rattle.matching.specs.Tags.{last_in, last_tag, is_younger, is_early}
-use Rattle.matching.specs.Reports.{report_of, is_report, early_in, early}
+use Rattle.matching.specs.Reports.{open_report_of, is_report, early_in, early}
 use Rattle.trace_model.specs.Entries.{Entry, insns_of}
 use Rattle.trace_model.specs.Traces.{entry_in, entries}
 use Rattle.trace_model.proofs.Lists.{In, in_cases, from_filter}
@@ -99,10 +99,10 @@ all_below_tag image before s h t y w i e =
 -- ---- early Bypasses
 
 -- each is above the last tag of its hart
-abbrev pub IsAhead : List Message → Report → Type 0
+abbrev pub IsAhead : List Message → OpenReport → Type 0
 IsAhead before r = is_younger (last_tag before r.hart) r.tag ≡ true
 
-pub other_tag : (head : Head) (r : Report) → head.tag ≤ r.tag → eqb head.hart r.hart ≡ true
+pub other_tag : (head : Head) (r : OpenReport) → head.tag ≤ r.tag → eqb head.hart r.hart ≡ true
     → not (is_report head.hart head.tag r) ≡ true → head.tag < r.tag
 other_tag head r l e n = at (eqb r.tag head.tag) refl
   where
@@ -112,19 +112,19 @@ other_tag head r l e n = at (eqb r.tag head.tag) refl
         absurd (false≢true (sym (ap not q) ∙ n))
     at false f = grind (arith, nat_tests)
 
-module _ (image : Loaded) (before : List Message) (head : Head) (r : Report)
+module _ (image : Loaded) (before : List Message) (head : Head) (r : OpenReport)
     (old : In r (early before) → IsAhead before r) where
   ahead_now : (b : Body) → SuitsBody image before head b → In r (early_in before (early before) head b)
       → IsAhead (record { head = head; body = b } ∷ before) r
   ahead_now (body.Bypass piece) s i = at (is_early before head) refl i
     where
       at : (c : Bool) → is_early before head ≡ c → In r
-          (cond c (report_of (number_after before) head piece ∷ early before) (early before)) → IsAhead before r
+          (cond c (open_report_of (number_after before) head piece ∷ early before) (early before)) → IsAhead before r
       at true q (inl e) = subst (IsAhead before) (sym e) q
       at true q (inr j) = old j
       at false q j = old j
   ahead_now (body.Retire retire) s i =
-      let y = from_filter (λ (s : Report). not (is_report head.hart head.tag s)) (early before) r i in
+      let y = from_filter (λ (s : OpenReport). not (is_report head.hart head.tag s)) (early before) r i in
       at (eqb head.hart r.hart) refl y.0 y.1
     where
       at : (c : Bool) → eqb head.hart r.hart ≡ c → In r (early before) → not (is_report head.hart head.tag r) ≡ true
@@ -139,27 +139,28 @@ module _ (image : Loaded) (before : List Message) (head : Head) (r : Report)
   ahead_now body.Squash s i = old i
   ahead_now body.End s i = old i
 
-pub ahead : (image : Loaded) (before : List Message) → Suited image before → (r : Report) → In r (early before)
+pub ahead : (image : Loaded) (before : List Message) → Suited image before → (r : OpenReport) → In r (early before)
     → IsAhead before r
 ahead image [] s r i = absurd i
 ahead image (m ∷ before) s r i = ahead_now image before m.head r (ahead image before s.0 r) m.body s.2 i
 
 -- one early Bypass for each instruction
-module _ (image : Loaded) (before : List Message) (head : Head) (q r : Report)
+module _ (image : Loaded) (before : List Message) (head : Head) (q r : OpenReport)
     (same : (q.hart ≡ r.hart) × (q.tag ≡ r.tag)) (old : In q (early before) → In r (early before) → q ≡ r) where
-  is_of_head : (n : ℕ) (piece : Piece) (s t : Report) → s ≡ report_of n head piece → (s.hart ≡ t.hart) × (s.tag ≡ t.tag)
+  is_of_head : (n : ℕ) (piece : Piece) (s t : OpenReport) → s ≡ open_report_of n head piece
+      → (s.hart ≡ t.hart) × (s.tag ≡ t.tag)
       → is_report head.hart head.tag t ≡ true
   is_of_head n piece s t e k =
-      and_from _ _ (eq-eqb _ _ (sym k.0 ∙ ap (λ (z : Report). z.hart) e))
-      (eq-eqb _ _ (sym k.1 ∙ ap (λ (z : Report). z.tag) e))
+      and_from _ _ (eq-eqb _ _ (sym k.0 ∙ ap (λ (z : OpenReport). z.hart) e))
+      (eq-eqb _ _ (sym k.1 ∙ ap (λ (z : OpenReport). z.tag) e))
 
   one_now : (b : Body) → SuitsBody image before head b → In q (early_in before (early before) head b)
       → In r (early_in before (early before) head b) → q ≡ r
   one_now (body.Bypass piece) s i j = at (is_early before head) refl i j
     where
       at : (c : Bool) → is_early before head ≡ c → In q
-          (cond c (report_of (number_after before) head piece ∷ early before) (early before))
-          → In r (cond c (report_of (number_after before) head piece ∷ early before) (early before)) → q ≡ r
+          (cond c (open_report_of (number_after before) head piece ∷ early before) (early before))
+          → In r (cond c (open_report_of (number_after before) head piece ∷ early before) (early before)) → q ≡ r
       at true e (inl a) (inl b) = a ∙ sym b
       at true e (inl a) (inr b) = absurd (both_ways _ ((s.0 e).first r b)
           (is_of_head (number_after before) piece q r a same))
@@ -168,8 +169,8 @@ module _ (image : Loaded) (before : List Message) (head : Head) (q r : Report)
       at true e (inr a) (inr b) = old a b
       at false e a b = old a b
   one_now (body.Retire retire) s i j =
-      old (from_filter (λ (s : Report). not (is_report head.hart head.tag s)) (early before) q i).0
-      (from_filter (λ (s : Report). not (is_report head.hart head.tag s)) (early before) r j).0
+      old (from_filter (λ (s : OpenReport). not (is_report head.hart head.tag s)) (early before) q i).0
+      (from_filter (λ (s : OpenReport). not (is_report head.hart head.tag s)) (early before) r j).0
   one_now (body.Open info) s i j = old i j
   one_now (body.Poke poke) s i j = old i j
   one_now (body.Read piece) s i j = old i j
@@ -178,7 +179,8 @@ module _ (image : Loaded) (before : List Message) (head : Head) (q r : Report)
   one_now body.Squash s i j = old i j
   one_now body.End s i j = old i j
 
-pub early_one : (image : Loaded) (before : List Message) → Suited image before → (q r : Report) → In q (early before)
+pub early_one : (image : Loaded) (before : List Message) → Suited image before → (q r : OpenReport)
+    → In q (early before)
     → In r (early before) → q.hart ≡ r.hart → q.tag ≡ r.tag → q ≡ r
 early_one image [] s q r i j a b = absurd i
 early_one image (m ∷ before) s q r i j a b = one_now image before m.head q r (a, b)

@@ -13,7 +13,7 @@ use Rattle.matching.specs.declared.stores.Fate.{Fate}
 use Rattle.matching.specs.declared.stores.Held.{Held}
 use Rattle.matching.specs.declared.stores.Fate.TheVariants.{Nothing, Waiting, Done}
 use Rattle.matching.specs.Settings.{number_after}
-use Rattle.matching.specs.Pieces.{has, line_of}
+use Rattle.matching.specs.Pieces.{has, line_start}
 use Rattle.matching.specs.Tags.{is_of, is_early}
 use Rattle.matching.specs.Fates.{waiting_in, waiting, drained, fate_in, fate}
 use Rattle.trace_model.proofs.Fresh.{IsFreshAt, AreFresh}
@@ -38,35 +38,35 @@ pub record IsHeldBy (before : List Message) (head : Head) (b : Body) (h l : ℕ)
   pub piece : Piece
   pub inserts : b ≡ body.Insert piece
   pub hart : head.hart ≡ h
-  pub line : line_of piece.addr ≡ l
+  pub line : line_start piece.addr ≡ l
   pub is : e ≡ record { number = number_after before; tag = head.tag; piece = piece }
 
 same_piece : (b : Body) (p q : Piece) → b ≡ body.Insert p → b ≡ body.Insert q → p ≡ q
 same_piece b p q e f = let c : body.Insert p ≡ body.Insert q = sym e ∙ f in cc
 
 fits_line : (before : List Message) (head : Head) (b : Body) (piece : Piece) → b ≡ body.Insert piece
-    → IsFreshAt before head b → (x : ℕ) → has piece x ≡ true → line_of x ≡ line_of piece.addr
+    → IsFreshAt before head b → (x : ℕ) → has piece x ≡ true → line_start x ≡ line_start piece.addr
 fits_line before head b piece e fits x p = (subst (λ (z : Body). IsFreshAt before head z) e fits).1 x p
 
 module _ (before : List Message) (head : Head) (h t x j : ℕ) where
   abbrev Old : Type 0
-  Old = fate before h t x ≡ Waiting j → IsWaiting (waiting before h (line_of x)) t x j
+  Old = fate before h t x ≡ Waiting j → IsWaiting (waiting before h (line_start x)) t x j
 
   abbrev Now : Body → Type 0
   Now b = fate_in before (fate before h t x) head b h t x ≡ Waiting j
-      → IsWaiting (waiting_in (number_after before) (waiting before h (line_of x)) head b h (line_of x)) t x j
+      → IsWaiting (waiting_in (number_after before) (waiting before h (line_start x)) head b h (line_start x)) t x j
 
   insert_waits : (piece : Piece) → IsFreshAt before head (body.Insert piece) → Old → Now (body.Insert piece)
   insert_waits piece fits old = at (is_of head h t && has piece x) refl
     where
       at : (c : Bool) → (is_of head h t && has piece x) ≡ c → cond c (Waiting (number_after before)) (fate before h t x)
           ≡ Waiting j
-          → IsWaiting (waiting_in (number_after before) (waiting before h (line_of x)) head (body.Insert piece) h
-          (line_of x)) t x j
+          → IsWaiting (waiting_in (number_after before) (waiting before h (line_start x)) head (body.Insert piece) h
+          (line_start x)) t x j
       at true e q =
           let r = and_parts (is_of head h t) (has piece x) e in
           let s = and_parts (eqb head.hart h) (eqb head.tag t) r.0 in
-          let inside : (eqb head.hart h && eqb (line_of piece.addr) (line_of x)) ≡ true =
+          let inside : (eqb head.hart h && eqb (line_start piece.addr) (line_start x)) ≡ true =
           and_from _ _ s.0 (eq-eqb _ _ (sym (fits.1 x r.1))) in (
             record { number = number_after before; tag = head.tag; piece = piece },
             rw inside (inl refl),
@@ -77,10 +77,10 @@ module _ (before : List Message) (head : Head) (h t x j : ℕ) where
       at false e q = let w = old q in (w.0, in_more _ _ _ w.0 w.1, w.2, w.3, w.4)
 
   write_waits : (write : LineWrite) → Old → Now (body.Write write)
-  write_waits write old = at (eqb head.hart h && eqb write.line (line_of x))
+  write_waits write old = at (eqb head.hart h && eqb write.line (line_start x))
     where
       at : (c : Bool) → cond c (drained head.time (number_after before) (fate before h t x)) (fate before h t x)
-          ≡ Waiting j → IsWaiting (cond c [] (waiting before h (line_of x))) t x j
+          ≡ Waiting j → IsWaiting (cond c [] (waiting before h (line_start x))) t x j
       at true q = absurd (not_drained head.time (number_after before) j (fate before h t x) q)
       at false q = old q
 
@@ -89,7 +89,7 @@ module _ (before : List Message) (head : Head) (h t x j : ℕ) where
     where
       at : (c d : Bool) → cond c (fate before h t x) (cond d
           (Done (record { time = head.time; message = number_after before; insert = number_after before }))
-          (fate before h t x)) ≡ Waiting j → IsWaiting (waiting before h (line_of x)) t x j
+          (fate before h t x)) ≡ Waiting j → IsWaiting (waiting before h (line_start x)) t x j
       at true d q = old q
       at false true q = absurd (cc)
       at false false q = old q
@@ -101,7 +101,7 @@ module _ (before : List Message) (head : Head) (h t x j : ℕ) where
   now_waits _ fits old = old
 
 pub waits : (before : List Message) → AreFresh before → (h t x j : ℕ) → fate before h t x ≡ Waiting j
-    → IsWaiting (waiting before h (line_of x)) t x j
+    → IsWaiting (waiting before h (line_start x)) t x j
 waits [] c h t x j e = absurd (cc)
 waits (m ∷ before) c h t x j e = now_waits before m.head h t x j m.body c.1 (waits before c.0 h t x j) e
 
@@ -111,12 +111,12 @@ waits (m ∷ before) c h t x j e = now_waits before m.head h t x j m.body c.1 (w
 pub held_now : (before : List Message) (head : Head) (b : Body) (h l : ℕ) (e : Held)
     → In e (waiting_in (number_after before) (waiting before h l) head b h l) → IsHeldBy before head b h l e
     ⊎ In e (waiting before h l)
-held_now before head (body.Insert piece) h l e i = at (eqb head.hart h && eqb (line_of piece.addr) l) refl i
+held_now before head (body.Insert piece) h l e i = at (eqb head.hart h && eqb (line_start piece.addr) l) refl i
   where
-    at : (c : Bool) → (eqb head.hart h && eqb (line_of piece.addr) l) ≡ c
+    at : (c : Bool) → (eqb head.hart h && eqb (line_start piece.addr) l) ≡ c
         → In e (cond c (record { number = number_after before; tag = head.tag; piece = piece } ∷ waiting before h l)
         (waiting before h l)) → IsHeldBy before head (body.Insert piece) h l e ⊎ In e (waiting before h l)
-    at true q (inl s) = let r = and_parts (eqb head.hart h) (eqb (line_of piece.addr) l) q in
+    at true q (inl s) = let r = and_parts (eqb head.hart h) (eqb (line_start piece.addr) l) q in
         inl (record { piece = piece; inserts = refl; hart = eqb-true _ _ r.0; line = eqb-true _ _ r.1; is = s })
     at true q (inr j) = inr j
     at false q j = inr j
@@ -164,7 +164,7 @@ held_one (m ∷ before) h l g k d e i j q = at (held_now before m.head m.body h 
 
 -- its bytes are those of the line
 pub held_line : (before : List Message) → AreFresh before → (h l : ℕ) (e : Held) (x : ℕ) → In e (waiting before h l)
-    → has e.piece x ≡ true → line_of x ≡ l
+    → has e.piece x ≡ true → line_start x ≡ l
 held_line [] c h l e x i p = absurd i
 held_line (m ∷ before) c h l e x i p = elim (held_now before m.head m.body h l e i) [
   | inl n ↦ fits_line before m.head m.body n.piece n.inserts c.1 x (subst (λ (z : Held). has z.piece x ≡ true) n.is p)
@@ -175,7 +175,7 @@ held_line (m ∷ before) c h l e x i p = elim (held_now before m.head m.body h l
 -- ---- from the line to the fate
 
 module _ (before : List Message) (head : Head) (h l x : ℕ) (e : Held) (p : has e.piece x ≡ true)
-    (line : In e (waiting before h l) → line_of x ≡ l) (old : In e (waiting before h l) → fate before h e.tag x
+    (line : In e (waiting before h l) → line_start x ≡ l) (old : In e (waiting before h l) → fate before h e.tag x
     ≡ Waiting e.number) where
   abbrev Holds : Body → Type 0
   Holds b = In e (waiting_in (number_after before) (waiting before h l) head b h l)
@@ -216,7 +216,7 @@ module _ (before : List Message) (head : Head) (h l x : ℕ) (e : Held) (p : has
   write_fate write i = at (eqb head.hart h && eqb write.line l) refl i
     where
       at : (c : Bool) → (eqb head.hart h && eqb write.line l) ≡ c → In e (cond c [] (waiting before h l))
-          → cond (eqb head.hart h && eqb write.line (line_of x))
+          → cond (eqb head.hart h && eqb write.line (line_start x))
           (drained head.time (number_after before) (fate before h e.tag x)) (fate before h e.tag x) ≡ Waiting e.number
       at true q j = absurd j
       at false q j = rw (line j, q) (old j)

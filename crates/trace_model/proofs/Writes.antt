@@ -19,7 +19,7 @@ use Rattle.matching.specs.declared.stores.Fate.{Fate}
 use Rattle.matching.specs.declared.stores.Held.{Held}
 use Rattle.matching.specs.declared.stores.Fate.TheVariants.{Nothing, Waiting, Done}
 use Rattle.matching.specs.Settings.{number_after}
-use Rattle.matching.specs.Pieces.{has, line_of}
+use Rattle.matching.specs.Pieces.{has, line_start}
 use Rattle.matching.specs.Fates.{waiting_in, waiting, fate}
 use Rattle.trace_model.proofs.Fresh.{AreFresh}
 use Rattle.trace_model.specs.Entries.{Entry, Stores, Places, built}
@@ -82,7 +82,7 @@ falling (m ∷ before) h l = at m.body (falling before h l)
 
     at : (b : Body) → AreFalling (waiting before h l) → AreFalling
         (waiting_in (number_after before) (waiting before h l) m.head b h l)
-    at (body.Insert piece) f = more (eqb m.head.hart h && eqb (line_of piece.addr) l) piece f
+    at (body.Insert piece) f = more (eqb m.head.hart h && eqb (line_start piece.addr) l) piece f
     at (body.Write write) f = less (eqb m.head.hart h && eqb write.line l) f
     at _ f = f
 
@@ -128,7 +128,7 @@ module _ (before : List Message) (clean : AreFresh before) (es : List Entry) (ea
     mine : (g t x : ℕ) → fate before g t x ≡ Waiting e.number → (g ≡ h) × (t ≡ e.tag) × (has e.piece x ≡ true)
     mine g t x f =
         let w = waits before clean g t x e.number f in
-        let s = held_one before g (line_of x) h l w.0 e w.1 i w.2 in
+        let s = held_one before g (line_start x) h l w.0 e w.1 i w.2 in
         (s.0, sym w.3 ∙ ap (λ (z : Held). z.tag) s.1, subst (λ (z : Held). has z.piece x ≡ true) s.1 w.4)
 
     abbrev test : ℕ → ℕ → ℕ → Type 0

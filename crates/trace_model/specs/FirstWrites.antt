@@ -10,7 +10,7 @@ use Rattle.msg_frames.specs.declared.message.Message.{Message}
 use Rattle.matching.specs.declared.stores.Fate.{Fate}
 use Rattle.matching.specs.declared.stores.Fate.TheVariants.{Nothing, Waiting, Done}
 use Rattle.matching.specs.Settings.{number_after}
-use Rattle.matching.specs.Pieces.{has, line_of}
+use Rattle.matching.specs.Pieces.{has, line_start}
 use Rattle.matching.specs.Tags.{is_of, is_early}
 
 -- message k has this head and body, and `older` are the messages before it
@@ -63,12 +63,12 @@ pub record IsFirstWrite (messages : List Message) (h l j k time : ℕ) : Type 0 
 -- the place, or by a plain Bypass
 abbrev pub IsPerformed : List Message → ℕ → ℕ → ℕ → Place → Type 0
 IsPerformed messages h t x p =
-    (IsInsert messages h t x p.insert × IsFirstWrite messages h (line_of x) p.insert p.message p.time)
+    (IsInsert messages h t x p.insert × IsFirstWrite messages h (line_start x) p.insert p.message p.time)
     ⊎ (IsPlainBypass messages h t x p.message p.time × (p.insert ≡ p.message))
 
 -- what became of byte x of the store of hart h under tag t, by the messages
 abbrev pub IsFate : List Message → ℕ → ℕ → ℕ → Fate → Type 0
 IsFate messages h t x Nothing =
     ((k : ℕ) → IsInsert messages h t x k → ⊥) × ((k time : ℕ) → IsPlainBypass messages h t x k time → ⊥)
-IsFate messages h t x (Waiting j) = IsInsert messages h t x j × NoWriteAfter messages h (line_of x) j
+IsFate messages h t x (Waiting j) = IsInsert messages h t x j × NoWriteAfter messages h (line_start x) j
 IsFate messages h t x (Done p) = IsPerformed messages h t x p

@@ -7,17 +7,7 @@ use Rattle.tandem_base.specs.declared.names.Place.{Place}
 use Rattle.rvwmo_model.specs.declared.operations.Op.{Op}
 use Rattle.rvwmo_model.specs.declared.operations.OpKind.{OpKind}
 use Rattle.rvwmo_model.specs.declared.operations.Ann.{Ann}
-
--- one access of an instruction, with the bytes that it loads and stores, each over the whole extent
-pub record Access : Type 0 where
-  pub hart : ℕ
-  pub tag : ℕ
-  pub kind : OpKind
-  pub extent : Extent
-  pub got : List ℕ
-  pub put : List ℕ
-  pub acquire : Ann
-  pub release : Ann
+pub use Rattle.trace_model.specs.declared.access.Access.{Access}
 
 -- bit i is set where k + i passes, for the n numbers from k up
 abbrev pub mask_from : (ℕ → Bool) → ℕ → ℕ → ℕ

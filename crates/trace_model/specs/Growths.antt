@@ -13,7 +13,7 @@ use Rattle.rvwmo_model.specs.declared.traces.Trace.{Trace}
 use Rattle.growth_laws.specs.Growth.{Same, AddEarly, AddInsn, Performs, Growth}
 use Rattle.matching.specs.Settings.{number_after}
 use Rattle.matching.specs.Tags.{is_early}
-use Rattle.matching.specs.Reports.{report_of}
+use Rattle.matching.specs.Reports.{open_report_of}
 use Rattle.matching.specs.Fates.{waiting}
 use Rattle.matching.specs.Matching.{IsClean}
 use Rattle.trace_model.specs.Entries.{Entry, Places, entry_ops}
@@ -31,7 +31,7 @@ own_place time n = record { time = time; message = n; insert = n }
 
 -- a Bypass adds an early store where its instruction has not retired; else it performs its bytes of the store
 abbrev pub BypassGrows : List Message → Head → Piece → Trace → Trace → Bool → Type 0
-BypassGrows before head piece t t' true = AddEarly t t' (early_op (report_of (number_after before) head piece))
+BypassGrows before head piece t t' true = AddEarly t t' (early_op (open_report_of (number_after before) head piece))
 BypassGrows before head piece t t' false =
     (o : Op) × Performs head.hart t (o ∷ []) t'
     × IsPartFor head.hart head.tag (own_place head.time (number_after before)) piece o

@@ -7,7 +7,7 @@ use Rattle.tandem_base.specs.Places.{earlier}
 use Rattle.msg_frames.specs.declared.message.Message.{Message}
 use Rattle.elf_image.specs.Images.{Loaded}
 use Rattle.rvwmo_model.specs.declared.operations.Op.{Op}
-use Rattle.matching.specs.declared.reports.Report.{Report}
+use Rattle.matching.specs.declared.reports.OpenReport.{OpenReport}
 use Rattle.matching.specs.Reports.{live, early, place_of_report}
 use Rattle.trace_model.specs.Traces.{trace_of}
 
@@ -17,13 +17,13 @@ earlier_of p None = p
 earlier_of p (Some q) = if earlier q p then q else p
 
 -- the earliest place of some reports
-abbrev pub earliest_place : List Report → Option Place
+abbrev pub earliest_place : List OpenReport → Option Place
 earliest_place [] = None
 earliest_place (r ∷ rs) = Some (earlier_of (place_of_report r) (earliest_place rs))
 
 -- the earliest place of the live Reads and early Bypasses of hart h
 abbrev pub oldest_place : List Message → ℕ → Option Place
-oldest_place before h = earliest_place (live before h ++ filter (λ (r : Report). r.hart == h) (early before))
+oldest_place before h = earliest_place (live before h ++ filter (λ (r : OpenReport). r.hart == h) (early before))
 
 -- performed after a place
 abbrev pub is_after_place : Place → Option Place → Bool

@@ -7,7 +7,7 @@ use Rattle.msg_frames.specs.declared.message.Message.{Message}
 use Rattle.elf_image.specs.Images.{Loaded}
 use Rattle.rvwmo_model.specs.declared.operations.Op.{Op}
 use Rattle.growth_laws.specs.Growth.{IsYounger}
-use Rattle.matching.specs.declared.reports.Report.{Report}
+use Rattle.matching.specs.declared.reports.OpenReport.{OpenReport}
 use Rattle.matching.specs.Reports.{live, early, place_of_report}
 use Rattle.matching.specs.Matching.{IsClean}
 use Rattle.trace_model.specs.Traces.{trace_of}
@@ -15,7 +15,8 @@ use Rattle.trace_model.specs.Traces.{trace_of}
 -- it is the place of a live Read of hart h, or of an early Bypass of that hart
 abbrev pub IsReported : List Message → ℕ → Place → Type 0
 IsReported before h p =
-    (r : Report) × (Contains (live before h) r ⊎ (Contains (early before) r × (r.hart ≡ h))) × (p ≡ place_of_report r)
+    (r : OpenReport) × (Contains (live before h) r ⊎ (Contains (early before) r × (r.hart ≡ h)))
+    × (p ≡ place_of_report r)
 
 -- there is no place, or it is of a later message, or of a report that these messages leave to hart h
 abbrev pub IsOrigin : List Message → ℕ → Option Place → Type 0

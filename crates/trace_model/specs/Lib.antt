@@ -5,9 +5,13 @@ pub mod GroupLaws
 pub mod Groups
 pub mod Growths
 pub mod Kept
+pub mod KeptOps
 pub mod LaterPlaces
 pub mod Laws
+pub mod Marks
 pub mod Parts
+pub mod PlainTraces
 pub mod Positions
 pub mod Retirements
+pub mod Seen
 pub mod Traces

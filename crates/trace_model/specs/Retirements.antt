@@ -14,7 +14,7 @@ use Rattle.rvwmo_model.specs.declared.operations.OpKind.{OpKind}
 use Rattle.rvwmo_model.specs.declared.operations.OpKind.TheVariants as kind
 use Rattle.rvwmo_model.specs.declared.operations.Ann.{Ann}
 use Rattle.rvwmo_model.specs.declared.operations.Ann.TheVariants as ann
-use Rattle.matching.specs.declared.reports.Report.{Report}
+use Rattle.matching.specs.declared.reports.OpenReport.{OpenReport}
 use Rattle.matching.specs.Reports.{early_of, counting, place_of_report, place_counted, bytes_counted}
 use Rattle.trace_model.specs.Extents.{extent_of}
 use Rattle.trace_model.specs.Groups.{Access, op_of, parts_of}
@@ -44,7 +44,7 @@ release_of _ = ann.None
 -- ---- accesses
 
 -- the access of a load or LR
-abbrev pub load_access : List Report → Head → Insn → Extent → Access
+abbrev pub load_access : List OpenReport → Head → Insn → Extent → Access
 load_access live head insn extent = record {
   hart = head.hart;
   tag = head.tag;
@@ -57,11 +57,11 @@ load_access live head insn extent = record {
 }
 
 -- where byte k of an extent was loaded: at the place of the Read that counts
-abbrev pub read_places : List Report → ℕ → Extent → ℕ → Option Place
+abbrev pub read_places : List OpenReport → ℕ → Extent → ℕ → Option Place
 read_places live t extent k = place_counted (counting live t (extent.addr + k))
 
 -- the operations of a load or LR: one for each Read that counts
-abbrev pub load_ops : List Report → Head → Insn → Extent → List Op
+abbrev pub load_ops : List OpenReport → Head → Insn → Extent → List Op
 load_ops live head insn extent =
     parts_of (load_access live head insn extent) (read_places live head.tag extent)
 
@@ -79,7 +79,7 @@ store_access head insn extent put = record {
 }
 
 -- the store of a Bypass over an extent, with what was loaded there
-abbrev pub bypass_access : OpKind → Extent → List ℕ → Ann → Ann → Report → Access
+abbrev pub bypass_access : OpKind → Extent → List ℕ → Ann → Ann → OpenReport → Access
 bypass_access k extent got acquire release r = record {
   hart = r.hart;
   tag = r.tag;
@@ -92,12 +92,12 @@ bypass_access k extent got acquire release r = record {
 }
 
 -- its operation: all bytes, at the place of the Bypass
-abbrev pub bypass_op : OpKind → Extent → List ℕ → Ann → Ann → Report → Op
+abbrev pub bypass_op : OpKind → Extent → List ℕ → Ann → Ann → OpenReport → Op
 bypass_op k extent got acquire release r =
     op_of (bypass_access k extent got acquire release r) (λ j. true) (Some (place_of_report r))
 
 -- the operation of an AMO or SC: that of its Bypass, none where there is none
-abbrev pub atomic_ops : OpKind → Extent → List ℕ → Ann → Ann → Option Report → List Op
+abbrev pub atomic_ops : OpKind → Extent → List ℕ → Ann → Ann → Option OpenReport → List Op
 atomic_ops k extent got acquire release None = []
 atomic_ops k extent got acquire release (Some r) = bypass_op k extent got acquire release r ∷ []
 
@@ -112,20 +112,20 @@ abbrev pub entry : Head → Insn → Bool → MemoryUse → Entry
 entry head insn stored memory = record { insn = retired head insn stored; memory = memory }
 
 -- the operation of an AMO: it loads what its Reads brought, and stores what its Bypass says
-abbrev pub amo_ops : List Report → List Report → Head → Insn → Extent → List Op
+abbrev pub amo_ops : List OpenReport → List OpenReport → Head → Insn → Extent → List Op
 amo_ops live early head insn extent =
     atomic_ops kind.Both extent (bytes_counted live head.tag extent.addr extent.len) (acquire_of insn) (release_of insn)
     (early_of early head.hart head.tag)
 
 -- the operation of an SC that succeeded; none of one that failed
-abbrev pub sc_ops : List Report → Head → Insn → Extent → List Op
+abbrev pub sc_ops : List OpenReport → Head → Insn → Extent → List Op
 sc_ops early head insn extent =
     atomic_ops kind.Store extent (replicate extent.len 0) (acquire_of insn) (release_of insn)
     (early_of early head.hart head.tag)
 
 -- the entry of an instruction that retires, by what it is to do, the live Reads of its hart, the early Bypasses, and
 -- the bytes that a plain store stores; none where it traps
-abbrev pub entry_of : List Report → List Report → Head → List ℕ → Doing → Option Entry
+abbrev pub entry_of : List OpenReport → List OpenReport → Head → List ℕ → Doing → Option Entry
 entry_of live early head put (trap cause value) = None
 entry_of live early head put (plain insn) = Some (entry head insn false (Fixed []))
 entry_of live early head put (counter insn) = Some (entry head insn false (Fixed []))

@@ -17,7 +17,7 @@ use Rattle.rvwmo_model.specs.declared.operations.Ann.TheVariants as ann
 use Rattle.rvwmo_model.specs.declared.traces.Trace.{Trace}
 use Rattle.trace_model.specs.Extents.{extent_of}
 use Rattle.trace_model.specs.Entries.{Entry, Places, built}
-use Rattle.matching.specs.declared.reports.Report.{Report}
+use Rattle.matching.specs.declared.reports.OpenReport.{OpenReport}
 use Rattle.matching.specs.Reports.{live, early}
 use Rattle.matching.specs.Fates.{fate, place_of}
 use Rattle.matching.specs.Settings.{open_of}
@@ -62,11 +62,11 @@ abbrev pub places : List Message → Places
 places before h t x = place_of (fate before h t x)
 
 -- the bytes of an early Bypass
-abbrev pub early_extent : Report → Extent
+abbrev pub early_extent : OpenReport → Extent
 early_extent r = extent_of r.piece.addr (length r.piece.bytes)
 
 -- an early Bypass as a store: its instruction has not retired, so it has no annotation yet
-abbrev pub early_op : Report → Op
+abbrev pub early_op : OpenReport → Op
 early_op r = bypass_op kind.Store (early_extent r) (replicate (early_extent r).len 0) ann.None ann.None r
 
 -- the size of the block that a reservation covers, as the Open says
