@@ -1,0 +1,15 @@
+pub mod Accepting
+pub mod Counting
+pub mod FaultPlaces
+pub mod Faultless
+pub mod Fine
+pub mod FirstDecisions
+pub mod FormedParts
+pub mod InWords
+pub mod Legality
+pub mod SteppedParts
+pub mod Tests
+pub mod Trapping
+pub mod Unbroken
+pub mod Windows
+pub mod WrittenParts

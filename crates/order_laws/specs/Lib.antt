@@ -1,0 +1,9 @@
+pub mod Decisions
+pub mod FaultLaws
+pub mod Faults
+pub mod Formed
+pub mod Lawful
+pub mod Limits
+pub mod Prefixes
+pub mod Retired
+pub mod Stepped
