@@ -1,7 +1,7 @@
 -- The frames of messages, and what they decide.
 use Rattle.std.proofs.Common.{◌≡◌, ℕ, ◌+◌, Bool, true, false, List, [], ◌∷◌, ◌++◌, length, refl, sym, ap, ◌∙◌}
 use Rattle.std.proofs.Common.{Option, None, Some, append_assoc, length-append}
-use Rattle.std.specs.Prelude.{All, if◌then◌else◌}
+use Rattle.std.specs.Prelude.{All, option_map, if◌then◌else◌}
 use Rattle.std.proofs.lemmas.List.Elements.{All-head, All-tail}
 use Rattle.msg_frames.specs.declared.message.Message.{Message}
 use Rattle.msg_frames.specs.Frames.{frame, Spells}
@@ -9,27 +9,39 @@ use Rattle.msg_frames.specs.Cut.{cut, is_end}
 use Rattle.msg_frames.proofs.CutLaws.{cut_message, whole_frame}
 use Rattle.msg_frames.proofs.Frames.{reading_frame}
 use Rattle.elf_image.specs.Images.{Loaded}
-use Rattle.verdict_report.specs.declared.verdict.Verdict.{Verdict}
+use Rattle.verdict_report.specs.declared.fault.Fault.{Fault}
+use Rattle.order_laws.specs.Decisions.{Decision, Offends, Passes, Accepts, decision_at}
+use Rattle.order_laws.specs.Faults.{message_fault}
+use Rattle.order_laws.specs.Limits.{Overrun, overrun_of}
 use Rattle.tandem_core.specs.declared.limits.Limits.{Limits}
 use Rattle.tandem_base.specs.FirstFault.{◌or_else◌}
 use Rattle.tandem_core.specs.Runs.{frame_size, frames_of, offset_of}
-use Rattle.tandem_core.specs.Judgements.{judge_from, judgement, decided, accept_of, verdict_at, IsQuiet}
+use Rattle.tandem_core.specs.Judgements.{judge_from, judgement, bounds_of, verdict_of, verdict_at, IsQuiet}
 use Rattle.tandem_core.specs.Judging.{IsSpelled, Lacks}
 use Rattle.tandem_core.proofs.JudgeLaws.{judged_after, after_message}
 
--- a message that ends with no verdict decides nothing
-none_decided : (first : Option Verdict) (ends : Bool) (v : Verdict)
-    → ◌or_else◌ first (if ends then Some v else None) ≡ None →
-    (first ≡ None) × (ends ≡ false)
-none_decided None true v e = absurd (cc)
-none_decided None false v e = (refl, refl)
-none_decided (Some w) ends v e = absurd (cc)
+-- where nothing is decided the message is no End
+last_none : (f : Option Fault) (o : Option Overrun) (ends : Bool) → (option_map Offends f or_else option_map Passes o
+    or_else (if ends then Some Accepts else None)) ≡ None → ends ≡ false
+last_none (Some f) o ends e = absurd (cc)
+last_none None (Some o) ends e = absurd (cc)
+last_none None None true e = absurd (cc)
+last_none None None false e = refl
 
--- and is no End
-pub quiet_parts : (image : Loaded) (limits : Limits) (before : List Message) (m : Message) →
-    verdict_at image limits before m ≡ None → (decided image limits before m ≡ None) × (is_end m.body ≡ false)
-quiet_parts image limits before m quiet =
-    none_decided (decided image limits before m) (is_end m.body) (accept_of (m ∷ before)) quiet
+pub undecided : (image : Loaded) (limits : Limits) (before : List Message) (m : Message)
+    → verdict_at image limits before m ≡ None → decision_at image (bounds_of limits) before m ≡ None
+undecided image limits before m quiet = at (decision_at image (bounds_of limits) before m) quiet
+  where
+    at : (d : Option Decision) → option_map (verdict_of image before m) d ≡ None → d ≡ None
+    at None e = refl
+    at (Some d) e = absurd (cc)
+
+-- a message that ends with no verdict is no End
+pub no_end : (image : Loaded) (limits : Limits) (before : List Message) (m : Message)
+    → verdict_at image limits before m ≡ None → is_end m.body ≡ false
+no_end image limits before m quiet = last_none (message_fault image before m)
+    (overrun_of image (bounds_of limits) (m ∷ before) m.head.hart) (is_end m.body)
+    (undecided image limits before m quiet)
 
 -- the frames are as long as the messages say
 pub frames_size : (before : List Message) → length (frames_of before) ≡ offset_of before
@@ -44,11 +56,10 @@ pub after_frame : (image : Loaded) (limits : Limits) (before : List Message) (m 
     judged_after image limits (frames_of before) before (frame m ++ more)
     ≡ judged_after image limits (frames_of (m ∷ before)) (m ∷ before) more
 after_frame image limits before m more spells quiet =
-    let parts = quiet_parts image limits before m quiet in
     after_message image limits (frames_of before) (frame m) more before m
     (cut_message (frame m) more m (whole_frame m spells.fits spells.holds)
-    (reading_frame m spells.fits spells.holds) parts.1)
-    parts.0
+    (reading_frame m spells.fits spells.holds) (no_end image limits before m quiet))
+    quiet
 
 -- the judgement of frames that decide nothing and of what follows them, from there on
 pub frames_judged : (image : Loaded) (limits : Limits) (before : List Message) (more : List ℕ) →

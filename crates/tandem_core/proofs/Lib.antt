@@ -1,6 +1,11 @@
-pub mod CsrLaws
-pub mod RetireLaws
-pub mod StandsLaws
-pub mod JudgeLaws
+pub mod Advancing
+pub mod CutShape
+pub mod Examined
 pub mod FrameLaws
+pub mod Headline
+pub mod JudgeLaws
+pub mod Kept
+pub mod OtherFaults
 pub mod Progress
+pub mod StandsLaws
+pub mod TruncationLaws

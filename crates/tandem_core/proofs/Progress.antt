@@ -1,8 +1,8 @@
 -- How far the judging of a source has come, and what each next frame makes of it.
-use Rattle.std.proofs.Common.{◌≡◌, ℕ, ◌+◌, ◌⊎◌, inl, inr, Bool, true, false, List, [], ◌∷◌, ◌++◌}
-use Rattle.std.proofs.Common.{length, refl, sym, ap, ◌∙◌, subst, arith, Option, None, Some, Ok, Err}
+use Rattle.std.proofs.Common.{◌≡◌, ℕ, ◌+◌, inl, inr, List, [], ◌∷◌, ◌++◌}
+use Rattle.std.proofs.Common.{length, refl, sym, ap, ◌∙◌, subst, arith, Option, Some, Ok, Err}
 use Rattle.std.proofs.Common.{append_assoc, length-append}
-use Rattle.std.specs.Prelude.{All, if◌then◌else◌}
+use Rattle.std.specs.Prelude.{All}
 use Rattle.std.specs.Io.KnownBytes.{IsAtEnd}
 use Rattle.std.proofs.lemmas.Bool.{cases_Bool}
 use Rattle.std.proofs.lemmas.List.Elements.{All-nil, All-cons}
@@ -12,58 +12,57 @@ use Rattle.msg_frames.specs.declared.message.FrameFault.{FrameFault}
 use Rattle.msg_frames.specs.Frames.{Spells}
 use Rattle.msg_frames.specs.Reading.{reading}
 use Rattle.msg_frames.specs.Cut.{cut, is_end}
-use Rattle.msg_frames.specs.Taking.{Took, IsWholeFrame, IsShort}
-use Rattle.msg_frames.proofs.Taking.{Took-nil, Took-trans}
+use Rattle.msg_frames.specs.Taking.{TakenFrom, IsWholeFrame, IsShort}
+use Rattle.msg_frames.proofs.Taking.{TakenFrom-nil, TakenFrom-trans}
 use Rattle.msg_frames.proofs.CutLaws.{needed_least, needed_front, cut_message, cut_end, cut_bad, cut_short}
 use Rattle.elf_image.specs.Images.{Loaded}
 use Rattle.verdict_report.specs.declared.verdict.Verdict.{Verdict}
 use Rattle.verdict_report.specs.declared.verdict.Verdict.TheVariants as verdict
 use Rattle.tandem_core.specs.declared.core_state.Core.{Core}
 use Rattle.tandem_core.specs.declared.limits.Limits.{Limits}
-use Rattle.tandem_base.specs.FirstFault.{◌or_else◌}
 use Rattle.tandem_core.specs.Runs.{frames_of, offset_of}
-use Rattle.tandem_core.specs.Judgements.{Judgement, judgement, decided, accept_of, verdict_at, bad_frame_of}
+use Rattle.tandem_core.specs.Judgements.{Judgement, judgement, verdict_at, bad_frame_of}
 use Rattle.tandem_core.specs.Judgements.{truncated_of}
-use Rattle.tandem_core.specs.Cores.{Stands}
+use Rattle.tandem_core.specs.Cores.{CoreStands}
 use Rattle.tandem_core.specs.Judging.{IsSpelled, Decides, Halts, Lacks}
-use Rattle.tandem_core.proofs.JudgeLaws.{judged_after, after_decision, after_end, after_bad, after_short}
+use Rattle.tandem_core.proofs.JudgeLaws.{judged_after, short_taken, after_decision, after_bad, after_short}
 use Rattle.tandem_core.proofs.FrameLaws.{frames_size, frames_judged}
 
 -- the core stands for messages whose frames are just what was taken
 pub record Progress (image : Loaded) (limits : Limits) (core : Core) (left left' : Option (List ℕ))
     (log log' : Log) : Type 0 where
   pub before : List Message
-  pub took : Took left left' log log' (frames_of before)
-  pub stands : Stands image limits core before
+  pub took : TakenFrom left left' log log' (frames_of before)
+  pub stands : CoreStands image limits core before
   pub spelled : All IsSpelled before
 
 -- nothing is taken yet
 pub begins : {image : Loaded} {limits : Limits} {core : Core} (left : Option (List ℕ)) (log : Log) →
-    Stands image limits core [] → Progress image limits core left left log log
+    CoreStands image limits core [] → Progress image limits core left left log log
 begins left log stands = record {
   before = [];
-  took = Took-nil left log;
+  took = TakenFrom-nil left log;
   stands = stands;
   spelled = All-nil IsSpelled;
 }
 
 -- what was taken is one frame more
 pub takes : {left left' left'' : Option (List ℕ)} {log log' log'' : Log} (before : List Message) (front : List ℕ) →
-    Took left left' log log' (frames_of before) → Took left' left'' log' log'' front →
-    Took left left'' log log'' (frames_of before ++ front)
+    TakenFrom left left' log log' (frames_of before) → TakenFrom left' left'' log' log'' front →
+    TakenFrom left left'' log log'' (frames_of before ++ front)
 takes {left} {left'} {left''} {log} {log'} {log''} before front took more =
-    Took-trans left left' left'' log log' log'' (frames_of before) front took more
+    TakenFrom-trans left left' left'' log log' log'' (frames_of before) front took more
 
 -- a message that ends with no verdict
 pub goes_on : {image : Loaded} {limits : Limits} {core core' : Core} {left left' left'' : Option
     (List ℕ)} {log log' log'' : Log}
     (front : List ℕ) (m : Message) (p : Progress image limits core left left' log log') →
-    Took left' left'' log' log'' front → Spells front m → Stands image limits core' (m ∷ p.before) →
+    TakenFrom left' left'' log' log'' front → Spells front m → CoreStands image limits core' (m ∷ p.before) →
     Progress image limits core' left left'' log log''
 goes_on {left = left} {left'' = left''} {log = log} {log'' = log''} front m p took spells stands = record {
   before = m ∷ p.before;
   took =
-      subst (λ (bytes : List ℕ). Took left left'' log log'' (frames_of p.before ++ bytes)) spells.is
+      subst (λ (bytes : List ℕ). TakenFrom left left'' log log'' (frames_of p.before ++ bytes)) spells.is
       (takes p.before front p.took took);
   stands = stands;
   spelled = All-cons IsSpelled m p.before (subst (λ (bytes : List ℕ). Spells bytes m) spells.is spells) p.spelled;
@@ -88,13 +87,13 @@ grown : (before : List Message) (front : List ℕ) (m : Message) → Spells fron
 grown before front m spells =
     ap (λ (bytes : List ℕ). length (frames_of before ++ bytes)) spells.is ∙ frames_size (m ∷ before)
 
-abbrev at_size : Verdict → ℕ → Judgement
-at_size v n = record { verdict = v; taken = n }
+abbrev at_size : ℕ → Verdict → ℕ → Judgement
+at_size k v n = record { verdict = v; taken = n; frames = k }
 
 -- a message that decides
-given_at : {image : Loaded} {limits : Limits} {core : Core} {left left' left'' : Option (List ℕ)} {log log' : Log}
+pub given_at : {image : Loaded} {limits : Limits} {core : Core} {left left' left'' : Option (List ℕ)} {log log' : Log}
     (front : List ℕ) (m : Message) (v : Verdict) (p : Progress image limits core left left' log log') →
-    IsWholeFrame front → reading front ≡ Ok m → Spells front m → decided image limits p.before m ≡ Some v →
+    IsWholeFrame front → reading front ≡ Ok m → Spells front m → verdict_at image limits p.before m ≡ Some v →
     Decides image limits (frames_of p.before ++ front) left'' v
 given_at {image} {limits} {core} {left} {left'} {left''} {log} {log'} front m v p whole reads spells here =
     let size = grown p.before front m spells in
@@ -104,47 +103,12 @@ given_at {image} {limits} {core} {left} {left'} {left''} {log} {log'} front m v 
       | inr on ↦ ((cut more).messages, ap (λ c. c.messages) (cut_message front more m whole reads on))
     ] in
     record {
+      frames = length (m ∷ p.before);
       verdict = inl (λ more.
           from_here front more p
           ∙ after_decision image limits (frames_of p.before) front more p.before m (first more).0 v (first more).1 here
-          ∙ ap (λ (n : ℕ). at_size v n) (sym size));
+          ∙ ap (λ (n : ℕ). at_size (length (m ∷ p.before)) v n) (sym size));
     }
-
--- the End
-given_at_end : {image : Loaded} {limits : Limits} {core : Core} {left left' left'' : Option (List ℕ)} {log log' : Log}
-    (front : List ℕ) (m : Message) (v : Verdict) (p : Progress image limits core left left' log log') →
-    IsWholeFrame front → reading front ≡ Ok m → Spells front m → decided image limits p.before m ≡ None →
-    is_end m.body ≡ true → v ≡ accept_of (m ∷ p.before) →
-    Decides image limits (frames_of p.before ++ front) left'' v
-given_at_end {image} {limits} {core} {left} {left'} {left''} {log} {log'} front m v p whole reads spells here ends is =
-    let size = grown p.before front m spells in
-    record {
-      verdict = inl (λ more.
-          from_here front more p
-          ∙ after_end image limits (frames_of p.before) front more p.before m
-          (cut_end front more m whole reads ends) here
-          ∙ ap (λ (w : Verdict). at_size w (offset_of (m ∷ p.before))) (sym is)
-          ∙ ap (λ (n : ℕ). at_size v n) (sym size));
-    }
-
--- a verdict is that of the message, or of the End
-either_way : (first : Option Verdict) (ends : Bool) (v w : Verdict)
-    → ◌or_else◌ first (if ends then Some w else None) ≡ Some v →
-    (first ≡ Some v) ⊎ ((first ≡ None) × (ends ≡ true) × (v ≡ w))
-either_way (Some u) ends v w e = inl e
-either_way None true v w e = inr (refl, refl, cc)
-either_way None false v w e = absurd (cc)
-
--- a message that ends with a verdict
-pub given_by : {image : Loaded} {limits : Limits} {core : Core} {left left' left'' : Option (List ℕ)} {log log' : Log}
-    (front : List ℕ) (m : Message) (v : Verdict) (p : Progress image limits core left left' log log') →
-    IsWholeFrame front → reading front ≡ Ok m → Spells front m → verdict_at image limits p.before m ≡ Some v →
-    Decides image limits (frames_of p.before ++ front) left'' v
-given_by {image} {limits} {core} {left} {left'} {left''} {log} {log'} front m v p whole reads spells is =
-    elim (either_way (decided image limits p.before m) (is_end m.body) v (accept_of (m ∷ p.before)) is) [
-      | inl here ↦ given_at front m v p whole reads spells here
-      | inr ended ↦ given_at_end front m v p whole reads spells ended.0 ended.1 ended.2
-    ]
 
 -- a frame that spells no message
 pub malformed : {image : Loaded} {limits : Limits} {core : Core} {left left' left'' : Option (List ℕ)} {log log' : Log}
@@ -154,13 +118,14 @@ pub malformed : {image : Loaded} {limits : Limits} {core : Core} {left left' lef
 malformed {image} {limits} {core} {left} {left'} {left''} {log} {log'} front f v p whole reads is =
     let least = needed_least front in
     record {
+      frames = length p.before;
       verdict = inl (λ more.
           from_here front more p
           ∙ after_bad image limits (frames_of p.before) front more p.before f (frames_size p.before)
           (cut_bad front more f whole reads)
           (needed_front front more (omega arith) ∙ sym whole)
-          ∙ ap (λ (w : Verdict). at_size w (offset_of p.before + length front)) (sym is)
-          ∙ ap (λ (n : ℕ). at_size v n) (sym (sized p.before front)));
+          ∙ ap (λ (w : Verdict). at_size (length p.before) w (offset_of p.before + length front)) (sym is)
+          ∙ ap (λ (n : ℕ). at_size (length p.before) v n) (sym (sized p.before front)));
     }
 
 -- the end of the input within a frame
@@ -172,13 +137,14 @@ ends_short {image} {limits} {core} {left} {left'} {left''} {log} {log'} front ha
     let size : length (frames_of p.before ++ front) ≡ offset_of p.before + have =
     sized p.before front ∙ ap (λ (n : ℕ). offset_of p.before + n) size_is in
     record {
+      frames = length p.before;
       verdict = inr (
         at_end,
         frames_judged image limits p.before front p.spelled p.stands.quiet
             ∙ after_short image limits (frames_of p.before) front p.before (length front) (cut_short front short)
-            ∙ ap (λ (n : ℕ). at_size (verdict.Reject (truncated_of p.before n)) (offset_of p.before + n)) size_is
-            ∙ ap (λ (w : Verdict). at_size w (offset_of p.before + have)) (sym is)
-            ∙ ap (λ (n : ℕ). at_size v n) (sym size),
+            ∙ ap (λ (n : ℕ). short_taken p.before n) size_is
+            ∙ ap (λ (w : Verdict). at_size (length p.before) w (offset_of p.before + have)) (sym is)
+            ∙ ap (λ (n : ℕ). at_size (length p.before) v n) (sym size),
       );
     }
 

@@ -1,67 +1,31 @@
 -- What a core stands for after one message more.
-use Rattle.std.proofs.Common.{◌≡◌, ◌≢◌, ℕ, ◌+◌, ◌<◌, length, List, ◌∷◌, Bool, true, false, nat_lt, Option}
-use Rattle.std.proofs.Common.{None, Some, Result, Ok, Err, refl, sym, ap, subst, ◌∙◌, arith}
-use Rattle.std.specs.Prelude.{if◌then◌else◌, slice_set, slice_index_or, ◌==◌, IfNone, OnOk}
-use Rattle.std.specs.Option.{option_map_or}
-use Rattle.std.proofs.lemmas.List.{get_or-set_same, get_or-set_other}
-use Rattle.std.proofs.lemmas.Bool.{eqb-true, eqb-false}
+use Rattle.std.proofs.Common.{◌≡◌, ℕ, ◌+◌, length, List, [], ◌∷◌, ◌++◌, Bool, true, false, nat_lt}
+use Rattle.std.proofs.Common.{Option}
+use Rattle.std.proofs.Common.{None, Some, refl, sym, ap, subst, ◌∙◌, arith}
+use Rattle.std.specs.Prelude.{if◌then◌else◌, option_map, IfNone, IfSome}
+use Rattle.std.proofs.lemmas.List.{reverse-append}
 use Rattle.msg_frames.specs.declared.message.Body.{Body}
 use Rattle.msg_frames.specs.declared.message.Body.TheVariants as body
 use Rattle.msg_frames.specs.declared.message.Message.{Message}
-use Rattle.msg_frames.specs.declared.message.OpenInfo.{OpenInfo}
 use Rattle.msg_frames.specs.Cut.{is_end}
-use Rattle.rv_step.specs.declared.plan.Config.{Config}
+use Rattle.msg_frames.specs.Frames.{Fits}
 use Rattle.elf_image.specs.Images.{Loaded, loaded_of}
 use Rattle.verdict_report.specs.declared.fault.Fault.{Fault}
 use Rattle.verdict_report.specs.declared.verdict.Limit.TheVariants as limit
 use Rattle.verdict_report.specs.declared.verdict.Verdict.{Verdict}
 use Rattle.verdict_report.specs.declared.verdict.Verdict.TheVariants as verdict
-use Rattle.tandem_core.specs.declared.hart_run.HartRun.{HartRun}
+use Rattle.tandem_base.specs.FirstFault.{◌or_else◌}
+use Rattle.trace_model.specs.KeptOps.{Follows}
+use Rattle.trace_model.specs.declared.tracer.Tracer.{Tracer}
+use Rattle.std.specs.Global.{Box}
+use Rattle.order_laws.specs.Decisions.{Decision, Offends, Passes, Accepts, operations_of}
+use Rattle.order_laws.specs.Faults.{message_fault}
+use Rattle.order_laws.specs.Limits.{Overrun, over_bound}
 use Rattle.tandem_core.specs.declared.core_state.Core.{Core}
 use Rattle.tandem_core.specs.declared.limits.Limits.{Limits}
-use Rattle.tandem_base.specs.FirstFault.{◌or_else◌, passed}
-use Rattle.tandem_core.specs.Retires.{started}
-use Rattle.tandem_core.specs.Runs.{frame_size, is_retire, open_of, config_in, hart_of, run_after, config_of}
-use Rattle.tandem_core.specs.Runs.{offset_of, retired_of, message_fault_of}
-use Rattle.tandem_core.specs.Judgements.{decided_by, accept_of, verdict_at}
-use Rattle.tandem_core.specs.Cores.{Stands, HasCounted, RunsStand, KeepsCounts, Counts, verdict_by, run_in}
-
--- either branch of a choice, where the test says which
-either : {A : Type 0} (b : Bool) (x y z : A) → (b ≡ true → x ≡ y) → (b ≡ false → x ≡ z) → x ≡ (if b then y else z)
-either true x y z chosen other = chosen refl
-either false x y z chosen other = other refl
-
--- the hart of a message is as it says, and the others are as they were
-pub runs_step : (image : Loaded) (limits : Limits) (old new : Core) (before : List Message) (m : Message) →
-    Stands image limits old before → m.head.hart < 16 →
-    new.runs ≡ slice_set old.runs m.head.hart (run_after (loaded_of old.image.now) old.config
-    (run_in old m.head.hart) m.head m.body) →
-    RunsStand image new (m ∷ before)
-runs_step image limits old new before m stands known set h below =
-    let made = run_after (loaded_of old.image.now) old.config (run_in old m.head.hart) m.head m.body in
-    let held : length old.runs ≡ 16 = old.sixteen in
-    let lt : m.head.hart < length old.runs = omega arith in
-    let own : run_in new m.head.hart ≡ made =
-    ap (λ (xs : List HartRun). slice_index_or xs m.head.hart (started 0 0)) set
-    ∙ get_or-set_same old.runs m.head.hart made (started 0 0) lt in
-    let image_is : loaded_of old.image.now ≡ image = stands.image_is in
-    let config_is : old.config ≡ config_of before = stands.config in
-    let run_is : run_in old m.head.hart ≡ hart_of image m.head.hart before = stands.runs m.head.hart known in
-    let taken : made ≡ run_after image (config_of before) (hart_of image m.head.hart before) m.head m.body =
-    ap (λ (i : Loaded). run_after i old.config (run_in old m.head.hart) m.head m.body) image_is
-    ∙ ap (λ (c : Config). run_after image c (run_in old m.head.hart) m.head m.body) config_is
-    ∙ ap (λ (r : HartRun). run_after image (config_of before) r m.head m.body) run_is in
-    let here : (m.head.hart == h) ≡ true →
-    run_in new h ≡ run_after image (config_of before) (hart_of image h before) m.head m.body =
-    λ same. subst (λ (k : ℕ). run_in new k ≡ run_after image (config_of before) (hart_of image k before) m.head m.body)
-    (eqb-true m.head.hart h same) (own ∙ taken) in
-    let there : (m.head.hart == h) ≡ false → run_in new h ≡ hart_of image h before =
-    λ apart.
-    let ne : h ≢ m.head.hart = λ e. eqb-false m.head.hart h apart (sym e) in
-    ap (λ (xs : List HartRun). slice_index_or xs h (started 0 0)) set
-    ∙ get_or-set_other old.runs m.head.hart h made (started 0 0) ne
-    ∙ stands.runs h below in
-    either (m.head.hart == h) _ _ _ here there
+use Rattle.tandem_core.specs.Runs.{frame_size, is_retire, offset_of, retired_of}
+use Rattle.tandem_core.specs.Judgements.{verdict_of, verdict_at}
+use Rattle.tandem_core.specs.Cores.{CoreStands, HasCounted, LosesTables, TakesTables, KeepsCounts, Counts, verdict_by}
 
 -- an End is no Retire
 end_retires_nothing : (b : Body) → is_end b ≡ true → is_retire b ≡ false
@@ -71,153 +35,187 @@ end_retires_nothing (body.Read piece) e = refl
 end_retires_nothing (body.Insert piece) e = refl
 end_retires_nothing (body.Write write) e = refl
 end_retires_nothing (body.Bypass piece) e = refl
-end_retires_nothing (body.Retire retire) e = cc
+end_retires_nothing (body.Retire retire) e = absurd (cc)
 end_retires_nothing body.Squash e = refl
 end_retires_nothing body.End e = refl
 
--- the acceptance by the core's counts, where the message is the End
-accepts : (core : Core) (before : List Message) (m : Message) (ends : Bool) → is_end m.body ≡ ends →
-    core.count ≡ length before → core.retired ≡ retired_of before →
-    (if ends then Some (verdict.Accept (core.count + 1) core.retired 0) else None)
-    ≡ (if ends then Some (accept_of (m ∷ before)) else None)
-accepts core before m true is count retired =
-    let none_more : is_retire m.body ≡ false = end_retires_nothing m.body is in
-    let count_next : core.count + 1 ≡ length (m ∷ before) = omega arith in
-    let retired_next : core.retired ≡ retired_of (m ∷ before) = rw none_more retired in
-    rw (count_next, retired_next) refl
-accepts core before m false is count retired = refl
+-- ---- the verdict
 
-full_or : (over : Bool) (v : Verdict) (later later' : Option Verdict) → later ≡ later' →
-    (if over then Some v else later) ≡ ◌or_else◌ (if over then Some v else None) later'
-full_or true v later later' e = refl
-full_or false v later later' e = e
+-- the core's counts are those of these messages
+pub record CountsStand (limits : Limits) (core : Core) (before : List Message) : Type 0 where
+  pub limits_is : core.limits ≡ limits
+  pub count : core.count ≡ length before
+  pub offset : core.offset ≡ offset_of before
+  pub retired : core.retired ≡ retired_of before
 
--- the verdict by the core's counts is the one that ends with the message
-pub verdict_is : (image : Loaded) (limits : Limits) (old mid : Core) (before : List Message) (m : Message)
-    (f : Option Fault) →
-    Stands image limits old before → KeepsCounts old mid → f ≡ message_fault_of image before m →
-    verdict_by mid m (passed f) ≡ verdict_at image limits before m
-verdict_is image limits old mid before m (Some f) stands keeps is =
-    let count_is : mid.count ≡ length before = keeps.count ∙ stands.count in
-    let offset_is : mid.offset ≡ offset_of before = keeps.offset ∙ stands.offset in
-    let first : verdict_by mid m (passed (Some f)) ≡ decided_by limits before m (Some f) =
-    rw (count_is, offset_is) refl in
-    first ∙ ap (λ (g : Option Fault). ◌or_else◌ (decided_by limits before m g) (if is_end m.body then Some
-    (accept_of (m ∷ before)) else None)) is
-verdict_is image limits old mid before m None stands keeps is =
-    let count_is : mid.count ≡ length before = keeps.count ∙ stands.count in
-    let retired_is : mid.retired ≡ retired_of before = keeps.retired ∙ stands.retired in
-    let limits_is : mid.limits ≡ limits = keeps.limits ∙ stands.limits_is in
-    let ends = accepts mid before m (is_end m.body) refl count_is retired_is in
-    let parts = full_or (nat_lt mid.limits.messages (mid.count + 1))
-    (verdict.Undecided (mid.count + 1) limit.Messages 0 (mid.count + 1)) _ _ ends in
-    let over_is :
-    (if nat_lt mid.limits.messages (mid.count + 1)
-    then Some (verdict.Undecided (mid.count + 1) limit.Messages 0 (mid.count + 1)) else None)
-    ≡ decided_by limits before m None = rw (limits_is, count_is) refl in
-    parts
-    ∙ ap (λ (d : Option Verdict). ◌or_else◌ d (if is_end m.body then Some (accept_of (m ∷ before)) else None)) over_is
-    ∙ ap (λ (g : Option Fault). ◌or_else◌ (decided_by limits before m g) (if is_end m.body then Some
-    (accept_of (m ∷ before)) else None)) is
+-- how many operations there are is known where the message is the End
+abbrev pub KnowsOperations : Loaded → List Message → Message → Option Fault → ℕ → Type 0
+KnowsOperations image before m f operations =
+    IfNone f (is_end m.body ≡ true → operations ≡ operations_of image (m ∷ before))
+
+-- the messages are too many, or the message is the End
+fine_is : (over ends : Bool) (V : Decision → Verdict) (o : Overrun) (full accept : Verdict) → full ≡ V (Passes o)
+    → (ends ≡ true → accept ≡ V Accepts)
+    → (if over then Some full else if ends then Some accept else None)
+    ≡ option_map V (option_map Passes (if over then Some o else None) or_else (if ends then Some Accepts else None))
+fine_is true ends V o full accept e f = ap (λ (v : Verdict). Some v) e
+fine_is false true V o full accept e f = ap (λ (v : Verdict). Some v) (f refl)
+fine_is false false V o full accept e f = refl
+
+module _ (image : Loaded) (limits : Limits) (core : Core) (before : List Message) (m : Message)
+    (stands : CountsStand limits core before) where
+  abbrev over : Overrun
+  over = record { limit = limit.Messages; hart = 0; count = length (m ∷ before) }
+
+  next : core.count + 1 ≡ length (m ∷ before)
+  next = let c = stands.count in omega (arith, c)
+
+  full : verdict.Undecided (core.count + 1) limit.Messages 0 (core.count + 1)
+      ≡ verdict_of image before m (Passes over)
+  full =
+      let a : core.count + 1 ≡ length before + 1 = let c = stands.count in omega (arith, c) in
+      λ i. verdict.Undecided (a i) limit.Messages 0 (next i)
+
+  accept : (operations : ℕ) → (is_end m.body ≡ true → operations ≡ operations_of image (m ∷ before))
+      → is_end m.body ≡ true
+      → verdict.Accept (core.count + 1) core.retired operations ≡ verdict_of image before m Accepts
+  accept operations known ends =
+      let r : core.retired ≡ retired_of (m ∷ before) =
+      stands.retired ∙ ap (λ (b : Bool). if b then retired_of before + 1 else retired_of before)
+      (sym (end_retires_nothing m.body ends)) in
+      let k = known ends in
+      λ i. verdict.Accept (next i) (r i) (k i)
+
+  limit_is : nat_lt core.limits.messages (core.count + 1) ≡ nat_lt limits.messages (length (m ∷ before))
+  limit_is = λ i. nat_lt (stands.limits_is i).messages (next i)
+
+  -- the verdict by the core's counts is the one that ends with the message
+  pub verdict_is : (f : Option Fault) (operations : ℕ) → f ≡ message_fault image before m
+      → KnowsOperations image before m f operations
+      → verdict_by core m f operations ≡ verdict_at image limits before m
+  verdict_is f operations is known = at f known ∙ ap (λ (g : Option Fault). option_map (verdict_of image before m)
+      (option_map Offends g or_else option_map Passes (over_bound limit.Messages (Some limits.messages) 0
+      (length (m ∷ before))) or_else (if is_end m.body then Some Accepts else None))) is
+    where
+      at : (f : Option Fault) → KnowsOperations image before m f operations → verdict_by core m f operations
+          ≡ option_map (verdict_of image before m) (option_map Offends f
+          or_else option_map Passes (over_bound limit.Messages (Some limits.messages) 0 (length (m ∷ before)))
+          or_else (if is_end m.body then Some Accepts else None))
+      at (Some f) known =
+          let n : core.count + 1 ≡ length before + 1 = let c = stands.count in omega (arith, c) in
+          λ i. Some (verdict.Reject (record {
+            message = n i;
+            offset = stands.offset i;
+            head = Some m.head;
+            fault = f;
+          }))
+      at None known =
+          ap (λ (b : Bool). if b then Some (verdict.Undecided (core.count + 1) limit.Messages 0 (core.count + 1))
+          else if is_end m.body then Some (verdict.Accept (core.count + 1) core.retired operations) else None) limit_is
+          ∙ fine_is (nat_lt limits.messages (length (m ∷ before))) (is_end m.body) (verdict_of image before m) over _ _
+          full (accept operations known)
+
+-- ---- counts
 
 -- a core that stands for messages has counted them
 pub counted : {image : Loaded} {limits : Limits} {core : Core} {before : List Message}
-    → Stands image limits core before → HasCounted core before
+    → CoreStands image limits core before → HasCounted core before
 counted stands = record { count = stands.count; offset = stands.offset }
 
--- one message more is counted
-pub counted_on : (old mid new : Core) (before : List Message) (m : Message) → HasCounted old before
-    → KeepsCounts old mid →
-    Counts mid new m → HasCounted new (m ∷ before)
-counted_on old mid new before m has keeps counts =
-    let count_is : mid.count ≡ length before = keeps.count ∙ has.count in
-    let offset_is : mid.offset ≡ offset_of before = keeps.offset ∙ has.offset in
-    record {
-      count = omega (arith, counts.count);
-      offset = counts.offset ∙ ap (λ (n : ℕ). n + frame_size m) offset_is;
-    }
+-- a core that loses its tables keeps its count
+pub counted_still : (old new : Core) (before : List Message) → LosesTables old new → HasCounted old before
+    → HasCounted new before
+counted_still old new before l h = record { count = l.count ∙ h.count; offset = l.offset ∙ h.offset }
 
--- a message that ends with no verdict: the core stands for one message more
-pub stands_on : (image : Loaded) (limits : Limits) (old mid new : Core) (before : List Message) (m : Message) →
-    Stands image limits old before → KeepsCounts old mid → RunsStand image mid (m ∷ before) → Counts mid new m →
-    new.verdict ≡ None → verdict_at image limits before m ≡ None → Stands image limits new (m ∷ before)
-stands_on image limits old mid new before m stands keeps runs counts going quiet =
-    let count_is : mid.count ≡ length before = keeps.count ∙ stands.count in
-    let offset_is : mid.offset ≡ offset_of before = keeps.offset ∙ stands.offset in
-    let harts_is = keeps.harts ∙ stands.harts in
-    let config_is = keeps.config ∙ stands.config in
-    let retired_is = keeps.retired ∙ stands.retired in
-    record {
-      image_is = ap (λ i. loaded_of i.now) (counts.image ∙ keeps.image) ∙ stands.image_is;
-      limits_is = counts.limits ∙ keeps.limits ∙ stands.limits_is;
-      going = going;
-      quiet = (quiet, stands.quiet);
-      count = omega (arith, counts.count);
-      offset = counts.offset ∙ ap (λ (n : ℕ). n + frame_size m) offset_is;
-      time = counts.time;
-      harts = counts.harts ∙ ap (λ (n : ℕ). option_map_or (λ (info : OpenInfo). info.harts)
-          (open_of m.body) n) harts_is;
-      config = counts.config ∙ ap (λ (c : Config). option_map_or (λ (info : OpenInfo). config_in info.flags)
-          (open_of m.body) c) config_is;
-      retired = counts.retired ∙ ap (λ (n : ℕ). if is_retire m.body then n + 1 else n) retired_is;
-      runs = λ h below.
-          ap (λ (xs : List HartRun). slice_index_or xs h (started 0 0)) counts.runs
-          ∙ runs h below;
-    }
-
--- what follows where an answer is Ok, from what holds there
-pub on_ok_then : {T E P Q : Type 0} → (r : Result T E) → OnOk r P → (P → Q) → OnOk r Q
-on_ok_then (Ok x) p f = f p
-on_ok_then (Err e) p f = tt
-
--- what holds where there is no value
-if_none_from : {A P : Type 0} → (o : Option A) → (o ≡ None → P) → IfNone o P
-if_none_from None f = f refl
-if_none_from (Some x) f = tt
-
--- what holds of an answer that is Ok
-on_ok_here : {P : Type 0} → (r : Result (Unit {0}) Fault) → r ≡ Ok tt → OnOk r P → P
-on_ok_here (Ok u) e p = p
-on_ok_here (Err f) e p = absurd (cc)
-
--- a message that ends with no verdict has no fault
-no_fault : (limits : Limits) (before : List Message) (m : Message) (f : Option Fault) (later : Option Verdict) →
-    ◌or_else◌ (decided_by limits before m f) later ≡ None → f ≡ None
-no_fault limits before m None later e = refl
-no_fault limits before m (Some g) later e = absurd (cc)
-
-keeps_both : (old mid new : Core) → KeepsCounts old mid → KeepsCounts mid new → KeepsCounts old new
-keeps_both old mid new a b = record {
-  image = b.image ∙ a.image;
-  limits = b.limits ∙ a.limits;
-  harts = b.harts ∙ a.harts;
-  config = b.config ∙ a.config;
-  count = b.count ∙ a.count;
-  offset = b.offset ∙ a.offset;
-  time = b.time ∙ a.time;
-  retired = b.retired ∙ a.retired;
+-- and stands for the same messages
+pub stands_still : (image : Loaded) (limits : Limits) (old new : Core) (before : List Message) → LosesTables old new
+    → CoreStands image limits old before → CoreStands image limits new before
+stands_still image limits old new before l s = record {
+  image_is = ap (λ i. loaded_of i.now) l.image ∙ s.image_is;
+  limits_is = l.limits ∙ s.limits_is;
+  going = l.verdict ∙ s.going;
+  quiet = s.quiet;
+  faultless = s.faultless;
+  kept = l.messages ∙ s.kept;
+  tables = subst (λ (o : Option (Box Tracer)). IfSome o (λ t. Follows image t.value before)) (sym l.tracer) tt;
+  count = l.count ∙ s.count;
+  offset = l.offset ∙ s.offset;
+  retired = l.retired ∙ s.retired;
 }
 
--- a message on its way through the core: where it ends with no verdict, the core stands for one message more
-pub advanced : (image : Loaded) (limits : Limits) (old applied concluded new : Core) (before : List Message)
-    (m : Message)
-    (checked : Result (Unit {0}) Fault) → Stands image limits old before → KeepsCounts old applied →
-    checked ≡ passed (message_fault_of image before m) → OnOk checked (RunsStand image applied (m ∷ before)) →
-    KeepsCounts applied concluded → concluded.runs ≡ applied.runs → Counts concluded new m →
-    new.verdict ≡ verdict_at image limits before m →
-    IfNone (verdict_at image limits before m) (Stands image limits new (m ∷ before))
-advanced image limits old applied concluded new before m checked stands keeps is runs keeps' same counts verdict =
-    if_none_from (verdict_at image limits before m) (λ quiet.
-    let fine : message_fault_of image before m ≡ None =
-    no_fault limits before m (message_fault_of image before m) (if is_end m.body then Some
-    (accept_of (m ∷ before)) else None) quiet in
-    let passes : checked ≡ Ok tt = is ∙ ap (λ (f : Option Fault). passed f) fine in
-    let runs_stand : RunsStand image applied (m ∷ before) = on_ok_here checked passes runs in
-    stands_on image limits old concluded new before m stands (keeps_both old applied concluded keeps keeps')
-    (λ h below. ap (λ (xs : List HartRun). slice_index_or xs h (started 0 0)) same ∙ runs_stand h below)
-    counts (verdict ∙ quiet) quiet)
+-- ---- one message more
+
+-- the way of a message through a core: the tables are taken out, kept again with the message, and then the verdict and
+-- the counts are set
+pub record Passes4 (old lost kept concluded new : Core) (m : Message) (t : Box Tracer) : Type 0 where
+  pub loses : LosesTables old lost
+  pub takes : TakesTables lost kept m t
+  pub keeps : KeepsCounts kept concluded
+  pub counts : Counts concluded new m
+
+module _ (image : Loaded) (limits : Limits) (old lost kept concluded new : Core) (before : List Message) (m : Message)
+    (t : Box Tracer) (way : Passes4 old lost kept concluded new m t) where
+  pub counted_on : HasCounted old before → HasCounted new (m ∷ before)
+  counted_on h =
+      let c = way.counts.count ∙ ap (λ (n : ℕ). n + 1) (way.keeps.count ∙ way.takes.count ∙ way.loses.count ∙ h.count)
+      in record {
+        count = omega (arith, c);
+        offset = way.counts.offset ∙ ap (λ (n : ℕ). n + frame_size m)
+            (way.keeps.offset ∙ way.takes.offset ∙ way.loses.offset ∙ h.offset);
+      }
+
+  -- before the verdict is set the counts are those of the older messages
+  pub counts_stand : CoreStands image limits old before → CountsStand limits kept before
+  counts_stand s = record {
+    limits_is = way.takes.limits ∙ way.loses.limits ∙ s.limits_is;
+    count = way.takes.count ∙ way.loses.count ∙ s.count;
+    offset = way.takes.offset ∙ way.loses.offset ∙ s.offset;
+    retired = way.takes.retired ∙ way.loses.retired ∙ s.retired;
+  }
+
+  -- where no verdict ends with the message the core stands for it too
+  pub stands_on : CoreStands image limits old before → Fits m → Follows image t.value (m ∷ before)
+      → message_fault image before m ≡ None → new.verdict ≡ None → verdict_at image limits before m ≡ None
+      → CoreStands image limits new (m ∷ before)
+  stands_on s fits follows fine going quiet =
+      let h = counted_on (counted s) in
+      let tracer : new.tracer ≡ Some t = way.counts.tracer ∙ way.keeps.tracer ∙ way.takes.tracer in
+      record {
+        image_is = ap (λ i. loaded_of i.now) (way.counts.image ∙ way.keeps.image ∙ way.takes.image ∙ way.loses.image)
+            ∙ s.image_is;
+        limits_is = way.counts.limits ∙ way.keeps.limits ∙ way.takes.limits ∙ way.loses.limits ∙ s.limits_is;
+        going = going;
+        quiet = (quiet, s.quiet);
+        faultless = (s.faultless, fits, fine);
+        kept = way.counts.messages ∙ way.keeps.messages ∙ way.takes.messages
+            ∙ ap (λ (l : List Message). l ++ m ∷ []) (way.loses.messages ∙ s.kept)
+            ∙ sym (reverse-append (m ∷ []) before);
+        tables = subst (λ (o : Option (Box Tracer)). IfSome o (λ t. Follows image t.value (m ∷ before))) (sym tracer)
+            follows;
+        count = h.count;
+        offset = h.offset;
+        retired = way.counts.retired ∙ ap (λ (n : ℕ). if is_retire m.body then n + 1 else n)
+            (way.keeps.retired ∙ way.takes.retired ∙ way.loses.retired ∙ s.retired);
+      }
+
+-- ---- cases
+
+-- what holds where there is no value
+pub if_none_from : {A P : Type 0} → (o : Option A) → (o ≡ None → P) → IfNone o P
+if_none_from None f = f refl
+if_none_from (Some x) f = tt
 
 -- what stands where a message ends with no verdict
 pub stands_here : {A P : Type 0} (o : Option A) → o ≡ None → IfNone o P → P
 stands_here None e p = p
 stands_here (Some x) e p = absurd (cc)
+
+-- a message that ends with no verdict has no fault
+first_none : (f : Option Fault) (V : Decision → Verdict) (later : Option Decision)
+    → option_map V (option_map Offends f or_else later) ≡ None → f ≡ None
+first_none None V later e = refl
+first_none (Some f) V later e = absurd (cc)
+
+pub no_fault : (image : Loaded) (limits : Limits) (before : List Message) (m : Message)
+    → verdict_at image limits before m ≡ None → message_fault image before m ≡ None
+no_fault image limits before m e = first_none (message_fault image before m) (verdict_of image before m) _ e

@@ -6,7 +6,9 @@ use Rattle.elf_image.specs.Images.{Loaded}
 use Rattle.msg_frames.specs.declared.message.Message.{Message}
 use Rattle.msg_frames.specs.Frames.{frame, Spells}
 use Rattle.msg_frames.specs.Taking.{IsShort}
+use Rattle.verdict_report.specs.declared.fault.Fault.TheVariants as fault
 use Rattle.verdict_report.specs.declared.verdict.Verdict.{Verdict}
+use Rattle.verdict_report.specs.declared.verdict.Verdict.TheVariants as verdict
 use Rattle.tandem_core.specs.declared.limits.Limits.{Limits}
 use Rattle.tandem_core.specs.declared.judging.Unjudged.{Unjudged}
 use Rattle.tandem_core.specs.declared.judging.Unjudged.TheVariants as unjudged
@@ -14,11 +16,13 @@ use Rattle.tandem_core.specs.Runs.{frames_of}
 use Rattle.tandem_core.specs.Judgements.{judgement, IsQuiet}
 
 -- These bytes give this verdict, and it stands on all of them and on no more: whatever follows, or because nothing
--- does.
+-- does. So many whole frames among them are messages.
 pub record Decides (image : Loaded) (limits : Limits) (got : List ℕ) (left : Option (List ℕ))
     (v : Verdict) : Type 0 where
-  pub verdict : ((more : List ℕ) → judgement image limits (got ++ more) ≡ record { verdict = v; taken = length got })
-      ⊎ (IsAtEnd left × (judgement image limits got ≡ record { verdict = v; taken = length got }))
+  pub frames : ℕ
+  pub verdict : ((more : List ℕ) →
+      judgement image limits (got ++ more) ≡ record { verdict = v; taken = length got; frames = frames })
+      ⊎ (IsAtEnd left × (judgement image limits got ≡ record { verdict = v; taken = length got; frames = frames }))
 
 -- the parts of a message fit their fields, so that its frame spells it
 abbrev pub IsSpelled : Message → Type 0
@@ -43,6 +47,12 @@ pub record Halts (image : Loaded) (limits : Limits) (got : List ℕ) : Type 0 wh
   pub spelled : All IsSpelled before
   pub spelled_last : IfSome last IsSpelled
   pub quiet : IsQuiet image limits before
+
+-- the verdict says that the stream ended within a frame
+abbrev pub TellsTruncation : Verdict → Type 0
+TellsTruncation (verdict.Accept messages retired operations) = ⊥
+TellsTruncation (verdict.Reject report) = (have : ℕ) × (report.fault ≡ fault.Truncated have)
+TellsTruncation (verdict.Undecided message limit hart count) = ⊥
 
 -- what an answer says of the bytes that were taken and of what is left
 abbrev pub JudgedIs : Loaded → Limits → Result Verdict Unjudged → List ℕ → Option (List ℕ) → Type 0

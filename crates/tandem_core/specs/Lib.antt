@@ -1,7 +1,7 @@
-pub mod Limits
-pub mod Compares
-pub mod Retires
-pub mod Runs
-pub mod Judgements
 pub mod Cores
+pub mod FitProps
+pub mod Headline
+pub mod Judgements
 pub mod Judging
+pub mod Limits
+pub mod Runs

@@ -1,57 +1,41 @@
 //! The checker in the middle of a stream.
 
-ghost use Rattle.std.specs.Prelude.{◌≡◌, ◌+◌, ◌*◌, ◌%◌, ◌<◌, ◌≤◌, ℕ, length, slice_index_or};
+ghost use Rattle.std.specs.Prelude.{◌≡◌, ◌+◌, ◌*◌, ◌≤◌, length};
+ghost use Rattle.std.specs.List.{All};
 ghost use Rattle.std.specs.Option.{ForNone};
+ghost use Rattle.msg_frames.specs.Frames.{Fits};
 ghost use Rattle.tandem_core.specs.Limits.{ceilings};
-ghost use Rattle.tandem_core.specs.Retires.{started};
-ghost use Rattle.tandem_core.specs.Runs.{frame_size, is_open, config_in};
+ghost use Rattle.tandem_core.specs.FitProps.{all_fit_prop};
+ghost use Rattle.tandem_core.specs.Runs.{frame_size};
 
+use super::examining::{examine, operations_at, tables_of};
 use super::fed::Fed;
-use super::hart_run::HartRun;
 use super::limits::Limits;
 use elf_image::Image;
-use msg_frames::{Body, FrameFault, Message, size};
-use rv_step::Config;
+use msg_frames::{Body, FrameFault, Message, MessageList, size};
 use std::alloc::{AllocError, Global};
+use trace_model::Tracer;
 use verdict_report::{Fault, Limit, Report, Verdict};
 
-/// A checker in the middle of a stream.
+/// A checker in the middle of a stream. It keeps the messages, and the tables of what they say; where
+/// memory was refused it has no tables, and makes them anew from the messages.
 #[derive(Debug, Drop)]
 pub struct Core<'a> {
+    alloc: Global,
     image: &'a Image,
     limits: Limits,
-    harts: u8,
-    config: Config,
+    messages: MessageList,
+    tracer: Option<Box<Tracer>>,
     count: u64,
     offset: u64,
-    time: u64,
     retired: u64,
-    runs: [HartRun; 16],
     verdict: Option<Verdict>,
     ghost limited: { limits.messages ≤ ceilings.messages },
     ghost counted: { count ≤ ceilings.messages + 1 },
     ghost going: { ForNone verdict (count ≤ limits.messages) },
     ghost measured: { offset ≤ 514 * count },
     ghost retirements: { retired ≤ count },
-    ghost few: { harts ≤ 16 },
-    ghost sixteen: { length runs ≡ 16 },
-}
-
-/// Whether the message is an Open.
-fn is_open_message(body: &Body) -> bool
-    ensures { result ≡ is_open body.now }
-{
-    matches!(body, Body::Open(_))
-}
-
-/// The settings that flags give.
-fn config_in_flags(flags: u8) -> Config
-    ensures { result ≡ config_in flags }
-{
-    Config {
-        mtval_word: flags % 2 == 1,
-        traps_misaligned: flags / 2 % 2 == 1,
-    }
+    ghost fitting: { All Fits messages } by { all_fit_prop messages },
 }
 
 /// How many bytes the frame of a message takes.
@@ -63,52 +47,37 @@ fn frame_bytes(message: &Message) -> u64
     u64::from(size(message))
 }
 
-/// The harts of a stream before its first message.
-fn starts(entry: u64) -> [HartRun; 16]
-    requires { entry % 4 ≡ 0 }
-    ensures len { length result ≡ 16 }
-    ensures each { (h : ℕ) → h < 16 → slice_index_or result h (started 0 0) ≡ started h entry }
-{
-    let mut runs = [HartRun::new(0, entry); 16];
-    for number in 0..16u8 {
-        runs[number as usize] = HartRun::new(number, entry);
-    }
-    runs
-}
-
 impl<'a> Core<'a> {
-    ghost use Rattle.std.specs.Prelude.{◌≡◌, ◌+◌, ◌<◌, ◌≤◌, ℕ, List, [], ◌∷◌, IfOk, OnOk, OnErr, IfNone};
-    ghost use Rattle.std.specs.Prelude.{None, slice_set, length};
-    ghost use Rattle.std.specs.Option.{option_copied};
+    ghost use Rattle.std.specs.Prelude.{◌≡◌, ◌≤◌, List, [], ◌∷◌, Ok, IfOk, OnOk, OnErr, IfNone, IfSome, length};
+    ghost use Rattle.std.specs.Prelude.{reverse};
     ghost use Rattle.msg_frames.specs.declared.message.Message.{Message};
     ghost use Rattle.msg_frames.specs.Frames.{Fits};
     ghost use Rattle.elf_image.specs.Images.{Loaded, loaded_of};
     ghost use Rattle.verdict_report.specs.declared.verdict.Verdict.{Verdict};
     ghost use Rattle.tandem_core.specs.declared.limits.Limits.{Limits};
-    ghost use Rattle.tandem_base.specs.FirstFault.{passed};
+    ghost use Rattle.matching.specs.Matching.{IsClean};
+    ghost use Rattle.trace_model.specs.KeptOps.{Follows};
     ghost use Rattle.tandem_core.specs.Limits.{HasCeilings};
-    ghost use Rattle.tandem_core.specs.Runs.{offset_of, stream_fault_of, body_fault_of, run_after, message_fault_of};
+    ghost use Rattle.tandem_core.specs.Runs.{offset_of};
     ghost use Rattle.tandem_core.specs.Judgements.{bad_frame_of, truncated_of, verdict_at};
-    ghost use Rattle.tandem_core.specs.Cores.{Stands, HasCounted, HasEnded, IsGoing, RunsStand, run_in, fed_as};
-    ghost use Rattle.tandem_core.specs.Cores.{ended_with};
-    ghost use Rattle.tandem_core.specs.Cores.{KeepsCounts, verdict_by, Counts};
+    ghost use Rattle.tandem_core.specs.Cores.{CoreStands, HasCounted, HasEnded, IsGoing, fed_as, ended_with};
+    ghost use Rattle.tandem_core.specs.Cores.{KeepsCounts, verdict_by, Counts, LosesTables, TakesTables};
 
     /// A checker of a stream against this image, before the first message.
-    pub fn start(_alloc: Global, image: &'a Image, limits: &Limits) -> Core<'a>
+    pub fn start(alloc: Global, image: &'a Image, limits: &Limits) -> Core<'a>
         requires { HasCeilings limits.now }
-        ensures stands { Stands (loaded_of image.now) limits.now result [] }
+        ensures stands { CoreStands (loaded_of image.now) limits.now result [] }
         ensures counted { HasCounted result [] }
     {
         Core {
+            alloc,
             image,
             limits: *limits,
-            harts: 0,
-            config: config_in_flags(0),
+            messages: MessageList::new(alloc),
+            tracer: None,
             count: 0,
             offset: 0,
-            time: 0,
             retired: 0,
-            runs: starts(image.entry()),
             verdict: None,
         }
     }
@@ -160,82 +129,32 @@ impl<'a> Core<'a> {
         }
     }
 
-    /// The place of a message in the stream.
-    fn check_place(&self, message: &Message) -> Result<(), Fault>
-        requires { Fits message.now }
-        ensures known { OnOk result (message.now.head.hart < 16) }
-        ensures fault { (image : Loaded) (limits : Limits) (before : List Message) →
-            Stands image limits self.now before →
-            result ≡ passed (stream_fault_of before message.now) }
+    /// The tables of the messages that are kept, which the core has no more then.
+    fn tables(&mut self) -> Result<Box<Tracer>, AllocError>
+        ensures follows { IsClean (loaded_of self.old.image.now) (reverse self.old.messages) →
+            IfSome self.old.tracer (λ t. Follows (loaded_of self.old.image.now) t.value (reverse self.old.messages)) →
+            IfOk result (λ t. Follows (loaded_of self.old.image.now) t.value (reverse self.old.messages)) }
+        ensures lost { LosesTables self.old self.new }
     {
-        let opens = is_open_message(&message.body);
-        if self.count == 0 {
-            return if opens { Ok(()) } else { Err(Fault::BadOpen) };
-        }
-        if opens {
-            Err(Fault::BadOpen)
-        } else if message.head.hart >= self.harts {
-            Err(Fault::BadHart)
-        } else if message.head.time < self.time {
-            Err(Fault::TimeBack { last: self.time })
-        } else {
-            Ok(())
-        }
-    }
-
-    /// Takes what a message says of its hart, or says what is wrong with it. Only that hart changes.
-    fn advance_hart(&mut self, image: &Image, message: &Message) -> Result<(), Fault>
-        requires known { message.now.head.hart < 16 }
-        requires fits { Fits message.now }
-        ensures fault { result ≡ passed (body_fault_of (loaded_of image.now) self.old.config
-            (run_in self.old message.now.head.hart) message.now.head message.now.body) }
-        ensures counts { KeepsCounts self.old self.new }
-        ensures verdict { self.new.verdict ≡ self.old.verdict }
-        ensures runs { OnOk result (self.new.runs ≡ slice_set self.old.runs message.now.head.hart
-            (run_after (loaded_of image.now) self.old.config (run_in self.old message.now.head.hart)
-            message.now.head message.now.body)) }
-    {
-        let config = self.config;
-        let runs = &mut self.runs;
-        let run = &mut runs[message.head.hart as usize];
-        match &message.body {
-            Body::Open(_) | Body::End => Ok(()),
-            Body::Poke(poke) => run.poke(poke),
-            Body::Retire(retire) => run.retire(image, &config, message.head.tag, retire),
-            Body::Read(_) | Body::Insert(_) | Body::Write(_) | Body::Bypass(_) | Body::Squash => {
-                Err(Fault::Unbuilt)
+        match self.tracer.take() {
+            Some(tracer) => Ok(tracer),
+            None => {
+                let tracer = tables_of(self.alloc, self.image, &self.messages)?;
+                Ok(Box::new(self.alloc, tracer)?)
             }
         }
     }
 
-    /// Takes what a message says of its hart, or says what is first wrong with it.
-    fn apply(&mut self, message: &Message) -> Result<(), Fault>
-        requires { Fits message.now }
-        ensures fault { (image : Loaded) (limits : Limits) (before : List Message) →
-            Stands image limits self.old before →
-            result ≡ passed (message_fault_of image before message.now) }
-        ensures counts { KeepsCounts self.old self.new }
-        ensures verdict { self.new.verdict ≡ self.old.verdict }
-        ensures runs { (image : Loaded) (limits : Limits) (before : List Message) →
-            Stands image limits self.old before →
-            OnOk result (RunsStand image self.new (message.now ∷ before)) }
-    {
-        let image = self.image;
-        self.check_place(message)?;
-        self.advance_hart(image, message)
-    }
-
     /// Sets the verdict, where a message that is fine or has a fault ends with one.
-    fn conclude(&mut self, message: &Message, checked: Result<(), Fault>)
+    fn conclude(&mut self, message: &Message, found: &Option<Fault>, operations: u64)
         requires going { IsGoing self.old }
-        ensures verdict { self.new.verdict ≡ verdict_by self.old message.now checked }
+        ensures verdict { self.new.verdict ≡ verdict_by self.old message.now found.now operations }
         ensures counts { KeepsCounts self.old self.new }
-        ensures runs { self.new.runs ≡ self.old.runs }
         ensures room { IfNone self.new.verdict (self.new.count + 1 ≤ self.new.limits.messages) }
     {
         let number = self.count + 1;
-        match checked {
-            Err(fault) => {
+        match *found {
+            Some(fault) => {
                 self.verdict = Some(Verdict::Reject(Report {
                     message: number,
                     offset: self.offset,
@@ -243,7 +162,7 @@ impl<'a> Core<'a> {
                     fault,
                 }));
             }
-            Ok(()) if number > self.limits.messages => {
+            None if number > self.limits.messages => {
                 self.verdict = Some(Verdict::Undecided {
                     message: number,
                     limit: Limit::Messages,
@@ -251,35 +170,40 @@ impl<'a> Core<'a> {
                     count: number,
                 });
             }
-            Ok(()) if matches!(message.body, Body::End) => {
+            None if matches!(message.body, Body::End) => {
                 self.verdict = Some(Verdict::Accept {
                     messages: number,
                     retired: self.retired,
-                    operations: 0,
+                    operations,
                 });
             }
-            Ok(()) => {}
+            None => {}
         }
     }
 
-    /// Counts a message, and takes its settings where it is the Open.
+    /// Counts a message.
     fn note(&mut self, message: &Message)
-        requires fits { Fits message.now }
         requires counted { self.old.count ≤ ceilings.messages }
         requires room { IfNone self.old.verdict (self.old.count + 1 ≤ self.old.limits.messages) }
         ensures counts { Counts self.old self.new message.now }
     {
         self.count += 1;
         self.offset += frame_bytes(message);
-        self.time = message.head.time;
-        match &message.body {
-            Body::Open(info) => {
-                self.harts = info.harts;
-                self.config = config_in_flags(info.flags);
-            }
-            Body::Retire(_) => self.retired += 1,
-            _ => {}
+        if matches!(message.body, Body::Retire(_)) {
+            self.retired += 1;
         }
+    }
+
+    /// Keeps a message, and the tables with it.
+    fn keep(&mut self, message: &Message, tracer: Box<Tracer>) -> Result<(), AllocError>
+        requires { Fits message.now }
+        ensures kept { OnOk result (TakesTables self.old self.new message.now tracer) }
+        ensures refused { OnErr result (KeepsCounts self.old self.new) }
+        ensures verdict { OnErr result (self.new.verdict ≡ self.old.verdict) }
+    {
+        self.messages.push(message.copy())?;
+        self.tracer = Some(tracer);
+        Ok(())
     }
 
     /// Takes the next message of a stream in which no message ended with a verdict. Where this one
@@ -288,43 +212,51 @@ impl<'a> Core<'a> {
         requires fits { Fits message.now }
         requires going { IsGoing self.old }
         ensures stands { (image : Loaded) (limits : Limits) (before : List Message) →
-            Stands image limits self.old before →
+            CoreStands image limits self.old before →
             OnOk result (IfNone (verdict_at image limits before message.now)
-            (Stands image limits self.new (message.now ∷ before))) }
+            (CoreStands image limits self.new (message.now ∷ before))) }
         ensures verdict { (image : Loaded) (limits : Limits) (before : List Message) →
-            Stands image limits self.old before →
+            CoreStands image limits self.old before →
             OnOk result (self.new.verdict ≡ verdict_at image limits before message.now) }
         ensures counted { (counted : List Message) → HasCounted self.old counted →
             OnOk result (HasCounted self.new (message.now ∷ counted)) }
-        ensures refused { OnErr result (self.new ≡ self.old) }
+        ensures refused { OnErr result (LosesTables self.old self.new) }
     {
-        let checked = self.apply(message);
-        self.conclude(message, checked);
+        let mut tracer = self.tables()?;
+        let number = self.count + 1;
+        let found = examine(self.alloc, self.image, &mut tracer, number, message)?;
+        let operations = operations_at(self.alloc, &tracer, message, &found)?;
+        self.keep(message, tracer)?;
+        self.conclude(message, &found, operations);
         self.note(message);
         Ok(())
     }
 
     /// Takes the next message of a stream, and answers what it decides. After an answer other than
-    /// Fine the same answer is given again, and nothing changes. Where memory is refused nothing
-    /// changed, and the call may be made again.
+    /// Fine the same answer is given again, always, and nothing changes. Where memory is refused the
+    /// core stands for the same messages, and the call may be made again.
     pub fn feed(&mut self, message: &Message) -> Result<Fed, AllocError>
         requires { Fits message.now }
         ensures answer { (image : Loaded) (limits : Limits) (before : List Message) →
-            Stands image limits self.old before →
+            CoreStands image limits self.old before →
             IfOk result (λ answer. answer ≡ fed_as (verdict_at image limits before message.now)) }
         ensures stands { (image : Loaded) (limits : Limits) (before : List Message) →
-            Stands image limits self.old before →
+            CoreStands image limits self.old before →
             OnOk result (IfNone (verdict_at image limits before message.now)
-            (Stands image limits self.new (message.now ∷ before))) }
+            (CoreStands image limits self.new (message.now ∷ before))) }
         ensures verdict { (image : Loaded) (limits : Limits) (before : List Message) →
-            Stands image limits self.old before →
+            CoreStands image limits self.old before →
             OnOk result (ended_with self.new ≡ verdict_at image limits before message.now) }
         ensures ends { IfOk result (λ answer. answer ≡ fed_as (ended_with self.new)) }
         ensures counted { (counted : List Message) → IsGoing self.old → HasCounted self.old counted →
             OnOk result (HasCounted self.new (message.now ∷ counted)) }
-        ensures ended { (v : Verdict) → HasEnded self.old v → IfOk result (λ answer. answer ≡ fed_as (Some v)) }
+        ensures ended { (v : Verdict) → HasEnded self.old v → result ≡ Ok (fed_as (Some v)) }
         ensures closed { (v : Verdict) → HasEnded self.old v → self.new ≡ self.old }
-        ensures refused { OnErr result (self.new ≡ self.old) }
+        ensures refused { (image : Loaded) (limits : Limits) (before : List Message) →
+            CoreStands image limits self.old before → OnErr result (CoreStands image limits self.new before) }
+        ensures uncounted { (counted : List Message) → HasCounted self.old counted →
+            OnErr result (HasCounted self.new counted) }
+        ensures going { OnErr result (IsGoing self.new) }
     {
         let _image = self.image;
         if self.verdict.is_none() {

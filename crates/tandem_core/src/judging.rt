@@ -1,11 +1,11 @@
 //! The verdict on the stream of a source.
 
-ghost use Rattle.std.specs.Prelude.{◌≡◌, ◌≤◌, ℕ, List, length, Err};
+ghost use Rattle.std.specs.Prelude.{◌≡◌, ◌≤◌, ℕ, List, true, Err, IfOk};
 ghost use Rattle.tandem_io.specs.Causes.{Rose};
-ghost use Rattle.msg_frames.specs.Taking.{Took};
+ghost use Rattle.msg_frames.specs.Taking.{TakenFrom};
 ghost use Rattle.elf_image.specs.Images.{loaded_of};
 ghost use Rattle.tandem_core.specs.Limits.{HasCeilings};
-ghost use Rattle.tandem_core.specs.Judging.{JudgedIs};
+ghost use Rattle.tandem_core.specs.Judging.{JudgedIs, TellsTruncation};
 
 use super::core_state::Core;
 use super::limits::Limits;
@@ -33,8 +33,9 @@ pub fn judge<S: Source>(
     src: &mut S,
 ) -> Result<Verdict, Unjudged>
     requires { HasCeilings limits.now }
-    ensures judged { (got : List ℕ) × Took (S.left src.old) (S.left src.new) (S.log src.old) (S.log src.new) got
+    ensures judged { (got : List ℕ) × TakenFrom (S.left src.old) (S.left src.new) (S.log src.old) (S.log src.new) got
         × JudgedIs (loaded_of image.now) limits.now result got (S.left src.new) }
+    ensures ended { IfOk result (λ v. TellsTruncation v → S.ended src.new ≡ true) }
     ensures count { S.faults src.old ≤ S.faults src.new }
     ensures cause { result ≡ Err Unjudged.Failed → Rose (S.faults src.old) (S.faults src.new) }
     ensures beside { S.aside src.new ≡ S.aside src.old }
@@ -49,12 +50,12 @@ fn judge_in<S: Source>(
     image: &Image,
     limits: &Limits,
     src: &mut S,
-    buf: &mut [u8],
+    buf: &mut [u8; 514],
 ) -> Result<Verdict, Unjudged>
-    requires limits { HasCeilings limits.now }
-    requires room { length buf.old ≡ 514 }
-    ensures judged { (got : List ℕ) × Took (S.left src.old) (S.left src.new) (S.log src.old) (S.log src.new) got
+    requires { HasCeilings limits.now }
+    ensures judged { (got : List ℕ) × TakenFrom (S.left src.old) (S.left src.new) (S.log src.old) (S.log src.new) got
         × JudgedIs (loaded_of image.now) limits.now result got (S.left src.new) }
+    ensures ended { IfOk result (λ v. TellsTruncation v → S.ended src.new ≡ true) }
     ensures count { S.faults src.old ≤ S.faults src.new }
     ensures cause { result ≡ Err Unjudged.Failed → Rose (S.faults src.old) (S.faults src.new) }
     ensures beside { S.aside src.new ≡ S.aside src.old }

@@ -4,7 +4,8 @@ use Rattle.tandem_core.specs.Runs.{frames_of}
 use Rattle.tandem_core.specs.Judgements.{verdict_at}
 use Rattle.verdict_report.specs.declared.verdict.Verdict.TheVariants as verdict
 use Rattle.tandem_core.proofs.StandsLaws.{counted, stands_here}
-use Rattle.tandem_core.proofs.Progress.{takes, goes_on, given_by, malformed, ends_short, lacks_part, halts_at}
+use Rattle.tandem_core.proofs.Progress.{takes, goes_on, given_at, malformed, ends_short, lacks_part, halts_at}
+use Rattle.tandem_core.proofs.TruncationLaws.{message_tells_no_truncation}
 use Rattle.tandem_core.proofs.judging.judge_in.Goals as goal
 
 pub returns-in-Err-clause-judged : goal.returns-in-Err-clause-judged
@@ -28,8 +29,21 @@ returns-in-Some-clause-judged g c =
     ∙ c.in-Some.is in (
       frames_of p.before ++ next.taken.0,
       takes p.before next.taken.0 p.took next.taken.1,
-      given_by next.taken.0 c.next_message_into.new.message c.in-Some.verdict p told.0 told.1 told.2 gives,
+      given_at next.taken.0 c.next_message_into.new.message c.in-Some.verdict p told.0 told.1 told.2 gives,
     )
+
+-- a message doesn't tell that the stream ended
+pub returns-in-Some-clause-ended : goal.returns-in-Some-clause-ended
+returns-in-Some-clause-ended g c =
+    let p = c.loop-core.invariant.progress in
+    let advanced = c.in-Ok.ensures {u = tt} in
+    let gives : verdict_at (loaded_of c.args.image.now) c.args.limits.now p.before c.next_message_into.new.message ≡
+    Some c.in-Some.verdict =
+    sym (advanced.verdict (loaded_of c.args.image.now) c.args.limits.now p.before p.stands) ∙ sym c.verdict.ensures
+    ∙ c.in-Some.is in
+    λ tells.
+    absurd (message_tells_no_truncation (loaded_of c.args.image.now) c.args.limits.now p.before
+    c.next_message_into.new.message c.in-Some.verdict gives tells)
 
 pub loop-core-preserved : goal.loop-core-preserved
 loop-core-preserved g c =
