@@ -19,8 +19,8 @@ use Rattle.trace_text.specs.Lines.{spaced, hart_field, time_field, tag_field, op
 use Rattle.trace_text.specs.Lines.{write_fields, target_text, trap_text, rd_text, csrs_text}
 use Rattle.trace_text.specs.Reading.{hart_at, time_at, tag_at, timed_at, placed_at, tagged_at, open_at, poke_at}
 use Rattle.trace_text.specs.Reading.{piece_at, write_at, fetch_at, outcome_at}
-use Rattle.trace_text.specs.Values.{most32, most64, between, multiple, target_in, poked_value_in, piece_bytes_in}
-use Rattle.trace_text.specs.Values.{line_bytes_in, trap_in, rd_in, csrs_in}
+use Rattle.trace_text.specs.Values.{most32, most64, between, multiple, target_word, poked_value_in, piece_bytes_in}
+use Rattle.trace_text.specs.Values.{line_bytes_in, trap_word, rd_word, csrs_word}
 use Rattle.trace_text.specs.Words.{field, ended}
 use Rattle.trace_text.proofs.Clean.{Breaks}
 use Rattle.trace_text.proofs.FieldLaws.{bind_ok, Spelled, spelled_then, field_found, ended_found}
@@ -140,10 +140,10 @@ pub poke_found : (line : List ℕ) (at : ℕ) (poke : Poke) → Here line at →
     × FitsTarget poke.target poke.value × (poke.value ≤ most64)
 unfolding poke_at
 poke_found line at poke at_end e =
-    let target = bind_ok (field (codes "reg=") target_in line at) _ poke e in
+    let target = bind_ok (field (codes "reg=") target_word line at) _ poke e in
     let value = bind_ok (field (codes "value=") (poked_value_in target.0.0) line target.0.1) _ poke target.2 in
     let end = bind_ok (ended line value.0.1) _ poke value.2 in
-    let t = spelled_by (codes "reg=") target_in (λ x. target_text x) (λ x. TargetFits x) target_read line at target.0
+    let t = spelled_by (codes "reg=") target_word (λ x. target_text x) (λ x. TargetFits x) target_read line at target.0
     at_end target.1 in
     let v = spelled_by (codes "value=") (poked_value_in target.0.0) hexadecimal
     (λ n. FitsTarget target.0.0 n × (n ≤ most64))
@@ -216,16 +216,17 @@ pub outcome_found : (line : List ℕ) (at : ℕ) (p : Option ℕ × Option RdVal
     × IfSome p.0 (λ cause. cause ≤ 255) × IfSome p.1 RdFits × (length p.2 ≤ 4) × All CsrFits p.2
 unfolding outcome_at
 outcome_found line at p at_end e =
-    let trap = bind_ok (field (codes "trap=") trap_in line at) _ p e in
-    let rd = bind_ok (field (codes "rd=") rd_in line trap.0.1) _ p trap.2 in
-    let csrs = bind_ok (field (codes "csrs=") csrs_in line rd.0.1) _ p rd.2 in
+    let trap = bind_ok (field (codes "trap=") trap_word line at) _ p e in
+    let rd = bind_ok (field (codes "rd=") rd_word line trap.0.1) _ p trap.2 in
+    let csrs = bind_ok (field (codes "csrs=") csrs_word line rd.0.1) _ p rd.2 in
     let end = bind_ok (ended line csrs.0.1) _ p csrs.2 in
-    let t = spelled_by (codes "trap=") trap_in (λ x. trap_text x) (λ x. IfSome x (λ cause. cause ≤ 255)) trap_read line
+    let t = spelled_by (codes "trap=") trap_word (λ x. trap_text x) (λ x. IfSome x (λ cause. cause ≤ 255)) trap_read
+    line
     at trap.0
     at_end trap.1 in
-    let r = spelled_by (codes "rd=") rd_in (λ x. rd_text x) (λ x. IfSome x RdFits) rd_read line trap.0.1 rd.0
+    let r = spelled_by (codes "rd=") rd_word (λ x. rd_text x) (λ x. IfSome x RdFits) rd_read line trap.0.1 rd.0
     (here t.0) rd.1 in
-    let c = spelled_by (codes "csrs=") csrs_in (λ x. csrs_text x) (λ l. (length l ≤ 4) × All CsrFits l)
+    let c = spelled_by (codes "csrs=") csrs_word (λ x. csrs_text x) (λ l. (length l ≤ 4) × All CsrFits l)
     (λ text l q. let told = csr_list_read text l q in (told.0, (told.1, told.2))) line rd.0.1 csrs.0 (here r.0)
     csrs.1 in
     subst (λ (q : Option ℕ × Option RdValue × List CsrValue).

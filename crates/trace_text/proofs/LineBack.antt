@@ -28,8 +28,8 @@ use Rattle.trace_text.specs.Lines.{write_fields, retire_fields, fields_of, kind_
 use Rattle.trace_text.specs.Lines.{target_text, trap_text, rd_text, csrs_text}
 use Rattle.trace_text.specs.Reading.{timed_at, placed_at, tagged_at, open_at, poke_at, piece_at, write_at, fetch_at}
 use Rattle.trace_text.specs.Reading.{outcome_at, retire_at, kind_named, message_at, message_of, line_read}
-use Rattle.trace_text.specs.Values.{most32, most64, between, multiple, target_in, poked_value_in, piece_bytes_in}
-use Rattle.trace_text.specs.Values.{line_bytes_in, trap_in, rd_in, csrs_in}
+use Rattle.trace_text.specs.Values.{most32, most64, between, multiple, target_word, poked_value_in, piece_bytes_in}
+use Rattle.trace_text.specs.Values.{line_bytes_in, trap_word, rd_word, csrs_word}
 use Rattle.trace_text.specs.Words.{◌>>=◌, until, field}
 use Rattle.trace_text.specs.declared.kinds.Kind.{Kind}
 use Rattle.trace_text.specs.declared.kinds.Kind.TheVariants as kind
@@ -161,7 +161,7 @@ poke_reads : (poke : Poke) (line : List ℕ) (at : ℕ) → FitsTarget poke.targ
 unfolding poke_at
 poke_reads poke line at fits holds small follows =
     let fit = target_fits poke.target poke.value fits holds in
-    let t = reads (codes "reg=") target_in (target_text poke.target) line at poke.target _
+    let t = reads (codes "reg=") target_word (target_text poke.target) line at poke.target _
     (clean_by (codes "reg=") refl)
     (target_clean poke.target fit) (target_back poke.target fit) follows in
     let v = reads (codes "value=") (poked_value_in poke.target) (hexadecimal poke.value) line t.end poke.value []
@@ -244,14 +244,14 @@ unfolding retire_at outcome_at
 retire_reads retire line at fits holds follows =
     let f = fetch_reads retire line at _ holds.0 holds.1 holds.2 follows in
     let trapped = trap_fit retire.trap holds.3 in
-    let t = reads (codes "trap=") trap_in (trap_text retire.trap) line f.end retire.trap _
+    let t = reads (codes "trap=") trap_word (trap_text retire.trap) line f.end retire.trap _
     (clean_by (codes "trap=") refl)
     (trap_clean retire.trap trapped) (trap_back retire.trap trapped) f.follows in
     let written = rd_fit retire.rd fits.0 holds.4 in
-    let r = reads (codes "rd=") rd_in (rd_text retire.rd) line t.end retire.rd _ (clean_by (codes "rd=") refl)
+    let r = reads (codes "rd=") rd_word (rd_text retire.rd) line t.end retire.rd _ (clean_by (codes "rd=") refl)
     (rd_clean retire.rd written) (rd_back retire.rd written) t.follows in
     let listed = csrs_fit retire.csrs holds.5 in
-    let c = reads (codes "csrs=") csrs_in (csrs_text retire.csrs) line r.end retire.csrs []
+    let c = reads (codes "csrs=") csrs_word (csrs_text retire.csrs) line r.end retire.csrs []
     (clean_by (codes "csrs=") refl)
     (csrs_clean retire.csrs listed) (csr_list_back retire.csrs fits.1 listed) r.follows in
     then_is _ (retire.pc, retire.word, retire.next, f.end) f.is (then_is _ (retire.trap, retire.rd, retire.csrs)

@@ -6,8 +6,8 @@ use Rattle.std.proofs.Common.{drop_of_length-le}
 use Rattle.std.proofs.lemmas.Bool.{ne_eqb, eqb-true, eqb-false, ltb-true, ltb-false}
 use Rattle.msg_frames.specs.declared.message.Message.{Message}
 use Rattle.trace_text.specs.Reading.{line_read}
-use Rattle.trace_text.specs.Texts.{Lines, put_byte, lines_of, left_fault, left_read, message_before}
-use Rattle.trace_text.specs.Texts.{line_before, lines_read, text_from, line_answer, line_at}
+use Rattle.trace_text.specs.Texts.{Lines, put_byte, text_lines, rest_fault, left_read, message_before}
+use Rattle.trace_text.specs.Texts.{line_before, lines_read, text_from, line_answer, text_line_at}
 use Rattle.trace_text.specs.Words.{until}
 use Rattle.trace_text.specs.declared.fault.TextFault.{TextFault}
 use Rattle.trace_text.specs.declared.fault.TextFault.TheVariants as fault
@@ -27,22 +27,23 @@ until_lacks stop (x ∷ xs) = decide (until_lacks stop xs) (nat_eq x stop) refl
 
 -- a line before others
 pub lines_ended : (front rest : List ℕ) → Lacks 10 front
-    → lines_of (front ++ (10 ∷ rest)) ≡ record { whole = front ∷ (lines_of rest).whole; left = (lines_of rest).left }
+    → text_lines (front ++ (10 ∷ rest))
+    ≡ record { whole = front ∷ (text_lines rest).whole; left = (text_lines rest).left }
 lines_ended [] rest plain = refl
 lines_ended (x ∷ xs) rest plain =
     ap (λ (b : Bool). if b then record {
-      whole = [] ∷ (lines_of (xs ++ (10 ∷ rest))).whole;
-      left = (lines_of (xs ++ (10 ∷ rest))).left;
-    } else put_byte x (lines_of (xs ++ (10 ∷ rest))).whole
-    (lines_of (xs ++ (10 ∷ rest))).left) (ne_eqb x 10 plain.0)
+      whole = [] ∷ (text_lines (xs ++ (10 ∷ rest))).whole;
+      left = (text_lines (xs ++ (10 ∷ rest))).left;
+    } else put_byte x (text_lines (xs ++ (10 ∷ rest))).whole
+    (text_lines (xs ++ (10 ∷ rest))).left) (ne_eqb x 10 plain.0)
     ∙ ap (λ (l : Lines). put_byte x l.whole l.left) (lines_ended xs rest plain.1)
 
 -- no line ends
-pub lines_left : (text : List ℕ) → Lacks 10 text → lines_of text ≡ record { whole = []; left = text }
+pub lines_left : (text : List ℕ) → Lacks 10 text → text_lines text ≡ record { whole = []; left = text }
 lines_left [] plain = refl
 lines_left (x ∷ xs) plain =
-    ap (λ (b : Bool). if b then record { whole = [] ∷ (lines_of xs).whole; left = (lines_of xs).left }
-    else put_byte x (lines_of xs).whole (lines_of xs).left) (ne_eqb x 10 plain.0)
+    ap (λ (b : Bool). if b then record { whole = [] ∷ (text_lines xs).whole; left = (text_lines xs).left }
+    else put_byte x (text_lines xs).whole (text_lines xs).left) (ne_eqb x 10 plain.0)
     ∙ ap (λ (l : Lines). put_byte x l.whole l.left) (lines_left xs plain.1)
 
 -- a text that begins with a line
@@ -68,9 +69,9 @@ answer_is true message end start r e = e
 answer_is false message end start r e = e
 
 -- the text ends
-pub next_none : (text : List ℕ) (start number : ℕ) → line_at text start ≡ Ok None
+pub next_none : (text : List ℕ) (start number : ℕ) → text_line_at text start ≡ Ok None
     → text_from number (drop start text) ≡ Ok []
-unfolding line_at
+unfolding text_line_at
 next_none text start number e = decide (nat_eq start (length text)) refl e
   where
     some : (b : Bool) (message : Message)
@@ -135,9 +136,9 @@ left_whole text start long =
     outside a b h = omega (arith, h)
 
 -- a line with its newline
-pub next_some : (text : List ℕ) (start number : ℕ) (line : TextLine) → line_at text start ≡ Ok (Some line)
+pub next_some : (text : List ℕ) (start number : ℕ) (line : TextLine) → text_line_at text start ≡ Ok (Some line)
     → text_from number (drop start text) ≡ message_before line.message (text_from (number + 1) (drop line.next text))
-unfolding line_at
+unfolding text_line_at
 next_some text start number line e = decide (nat_eq start (length text)) refl e
   where
     ended_line : (message : Message) → line_read (until 10 (drop start text)) ≡ Ok message
@@ -199,9 +200,9 @@ err_is {A} a b e = ap (λ r. place_of r) e
     place_of (Err place) = place
 
 -- a line that is wrong, or has no newline
-pub next_err : (text : List ℕ) (start number column : ℕ) → start ≤ length text → line_at text start ≡ Err column
+pub next_err : (text : List ℕ) (start number column : ℕ) → start ≤ length text → text_line_at text start ≡ Err column
     → text_from number (drop start text) ≡ Err (fault.Form number column)
-unfolding line_at
+unfolding text_line_at
 next_err text start number column low e = decide (nat_eq start (length text)) refl e
   where
     whole_line : (place : ℕ) → line_read (until 10 (drop start text)) ≡ Err place → place + 1 ≡ column
@@ -217,15 +218,15 @@ next_err text start number column low e = decide (nat_eq start (length text)) re
 
     last_line : (r : Result Message ℕ) → line_read (until 10 (drop start text)) ≡ r
         → (start + length (until 10 (drop start text)) < length text → ⊥) → (start ≡ length text → ⊥)
-        → text_from number (drop start text) ≡ Err (left_fault number (drop start text) r)
+        → text_from number (drop start text) ≡ Err (rest_fault number (drop start text) r)
     last_line r p long open_end =
         let whole = left_whole text start long in
         let some : nat_eq (length (drop start text)) 0 ≡ false =
         ne_eqb _ 0 (λ none. open_end (omega (arith, low, none, length-drop start text))) in
         text_left number (drop start text) (subst (Lacks 10) whole (until_lacks 10 (drop start text)))
-        ∙ ap (λ (b : Bool). if b then Ok [] else Err (left_fault number (drop start text)
+        ∙ ap (λ (b : Bool). if b then Ok [] else Err (rest_fault number (drop start text)
         (line_read (drop start text)))) some
-        ∙ ap (λ q. Err (left_fault number (drop start text) q)) (ap line_read (sym whole) ∙ p)
+        ∙ ap (λ q. Err (rest_fault number (drop start text) q)) (ap line_read (sym whole) ∙ p)
 
     wrong : (b : Bool) (place : ℕ) → nat_lt (start + length (until 10 (drop start text))) (length text) ≡ b
         → line_read (until 10 (drop start text)) ≡ Err place → place + 1 ≡ column → (start ≡ length text → ⊥)

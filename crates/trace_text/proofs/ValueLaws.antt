@@ -32,8 +32,8 @@ use Rattle.numerals.specs.Numerals.{decimal_in, hexadecimal, hexadecimal_in}
 use Rattle.std.specs.List.{flat_map}
 use Rattle.trace_text.specs.Lines.{target_text, trap_text, rd_text, csr_text, next_csr_text, csrs_text}
 use Rattle.trace_text.specs.Values.{most16, most64, is_text, at_least, between, if_multiple, multiple, poked}
-use Rattle.trace_text.specs.Values.{target_in, poked_value_in, trap_in, rd_of, register_in, rd_in}
-use Rattle.trace_text.specs.Values.{csr_of, csr_in, csr_before, some_csrs_in, csrs_in}
+use Rattle.trace_text.specs.Values.{target_word, poked_value_in, trap_word, rd_of, register_in, rd_word}
+use Rattle.trace_text.specs.Values.{csr_of, csr_in, csr_before, some_csrs_in, csrs_word}
 use Rattle.trace_text.specs.Values.{if_written, bytes_in, piece_bytes_in, nothing, is_masked, if_masked, line_bytes_in}
 use Rattle.trace_text.specs.Words.{until, behind}
 use Rattle.trace_text.proofs.Clean.{Clean, Lacks, Breaks, clean_append, lacks_append, clean_by, decimal_clean}
@@ -105,7 +105,7 @@ poked_told text (Some n) target p h =
     let found = hexadecimal_read most16 n text p in
     subst (λ (t : Target). (text ≡ target_text t) × TargetFits t) both.1 (found.0, (both.0, found.1))
 
-pub target_read : (text : List ℕ) (target : Target) → target_in text ≡ Some target
+pub target_read : (text : List ℕ) (target : Target) → target_word text ≡ Some target
     → (text ≡ target_text target) × TargetFits target
 target_read text target e = first (is_text text (codes "pc")) refl e
   where
@@ -133,7 +133,7 @@ target_read text target e = first (is_text text (codes "pc")) refl e
         (same_text text (codes "pc") (sym p), tt)
     first false p h = second (starts_with nat_eq text (codes "x")) refl h
 
-pub target_back : (target : Target) → TargetFits target → target_in (target_text target) ≡ Some target
+pub target_back : (target : Target) → TargetFits target → target_word (target_text target) ≡ Some target
 target_back Pc fits = refl
 target_back (X number) fits = ap (option_map (λ n. X n)) (between_back 1 31 number (omega arith) fits.0 fits.1)
 target_back (Csr number) fits =
@@ -167,7 +167,7 @@ no_dash : (n : ℕ) → n < 2 ^ 64 → is_text (decimal n) (codes "-") ≡ false
 no_dash n small = unlike (decimal n) (codes "-") (λ same. (subst (Lacks 45) same (decimal_lacks 45 n small refl)).0
     refl)
 
-pub trap_read : (text : List ℕ) (trap : Option ℕ) → trap_in text ≡ Some trap
+pub trap_read : (text : List ℕ) (trap : Option ℕ) → trap_word text ≡ Some trap
     → (text ≡ trap_text trap) × IfSome trap (λ cause. cause ≤ 255)
 trap_read text trap e = first (is_text text (codes "-")) refl e
   where
@@ -187,7 +187,7 @@ trap_read text trap e = first (is_text text (codes "-")) refl e
         (cond_some true None trap h).1 (same_text text (codes "-") (sym p), tt)
     first false p h = caused (between 0 255 text) refl h
 
-pub trap_back : (trap : Option ℕ) → IfSome trap (λ cause. cause ≤ 255) → trap_in (trap_text trap) ≡ Some trap
+pub trap_back : (trap : Option ℕ) → IfSome trap (λ cause. cause ≤ 255) → trap_word (trap_text trap) ≡ Some trap
 trap_back None fits = refl
 trap_back (Some cause) fits =
     ap (λ (b : Bool). if b then Some None else option_map (λ c. Some c) (between 0 255 (decimal cause)))
@@ -260,7 +260,7 @@ register_back rd fits =
     ap (hexadecimal_in most64) parts.1 ∙ hexadecimal_back most64 rd.value (omega arith) fits.2 in
     λ i. rd_of (number i) (value i)
 
-pub rd_read : (text : List ℕ) (rd : Option RdValue) → rd_in text ≡ Some rd
+pub rd_read : (text : List ℕ) (rd : Option RdValue) → rd_word text ≡ Some rd
     → (text ≡ rd_text rd) × IfSome rd RdFits
 rd_read text rd e = first (is_text text (codes "-")) refl e
   where
@@ -290,7 +290,7 @@ rd_read text rd e = first (is_text text (codes "-")) refl e
         (same_text text (codes "-") (sym p), tt)
     first false p h = second (starts_with nat_eq text (codes "x")) refl h
 
-pub rd_back : (rd : Option RdValue) → IfSome rd RdFits → rd_in (rd_text rd) ≡ Some rd
+pub rd_back : (rd : Option RdValue) → IfSome rd RdFits → rd_word (rd_text rd) ≡ Some rd
 rd_back None fits = refl
 rd_back (Some rd) fits =
     ap (λ l. option_map (λ r. Some r) (register_in l)) (append_assoc (decimal rd.number) (codes ":")
@@ -419,7 +419,7 @@ csrs_read (suc room) text csrs e =
     first later None p h = cc
     first later (Some csr) p h = test later csr p (nat_eq (length (until 44 text)) (length text)) refl h
 
-pub csr_list_read : (text : List ℕ) (csrs : List CsrValue) → csrs_in text ≡ Some csrs
+pub csr_list_read : (text : List ℕ) (csrs : List CsrValue) → csrs_word text ≡ Some csrs
     → (text ≡ csrs_text csrs) × (length csrs ≤ 4) × All CsrFits csrs
 csr_list_read text csrs e = first (is_text text (codes "-")) refl e
   where
@@ -462,7 +462,7 @@ some_csrs_back (suc room) first (next ∷ more) few fits =
     ∙ some_csrs_back room next more (omega (arith, few)) (all_later first (next ∷ more) fits) in
     λ i. csr_before (read i) (if test i then Some [] else later i)
 
-pub csr_list_back : (csrs : List CsrValue) → length csrs ≤ 4 → All CsrFits csrs → csrs_in (csrs_text csrs) ≡ Some csrs
+pub csr_list_back : (csrs : List CsrValue) → length csrs ≤ 4 → All CsrFits csrs → csrs_word (csrs_text csrs) ≡ Some csrs
 csr_list_back [] few fits = refl
 csr_list_back (csr ∷ csrs) few fits = some_csrs_back 4 csr csrs few fits
 

@@ -10,7 +10,7 @@ use Rattle.msg_frames.specs.declared.message.Message.{Message}
 use Rattle.tandem_base.specs.Texts.{newline}
 use Rattle.trace_text.specs.Lines.{spaced, fields_of, kind_word, words_of, text_of}
 use Rattle.trace_text.specs.Reading.{line_read}
-use Rattle.trace_text.specs.Texts.{Spellable, Lines, put_byte, lines_of, left_fault, message_before}
+use Rattle.trace_text.specs.Texts.{Spellable, Lines, put_byte, text_lines, rest_fault, message_before}
 use Rattle.trace_text.specs.Texts.{line_before, lines_read, text_from, text_read}
 use Rattle.trace_text.specs.declared.fault.TextFault.{TextFault}
 use Rattle.trace_text.specs.declared.fault.TextFault.TheVariants.{Memory}
@@ -32,18 +32,18 @@ put_whole byte [] left = refl
 put_whole byte (line ∷ lines) left = refl
 
 -- a text is its lines, each with its newline, and what is left
-lines_whole : (text : List ℕ) → text ≡ flat_map with_newline (lines_of text).whole ++ (lines_of text).left
+lines_whole : (text : List ℕ) → text ≡ flat_map with_newline (text_lines text).whole ++ (text_lines text).left
 lines_whole [] = refl
 lines_whole (x ∷ xs) = decide (lines_whole xs) (nat_eq x 10) refl
   where
     parts : Bool → Lines
-    parts b = if b then record { whole = [] ∷ (lines_of xs).whole; left = (lines_of xs).left }
-        else put_byte x (lines_of xs).whole (lines_of xs).left
+    parts b = if b then record { whole = [] ∷ (text_lines xs).whole; left = (text_lines xs).left }
+        else put_byte x (text_lines xs).whole (text_lines xs).left
 
-    decide : xs ≡ flat_map with_newline (lines_of xs).whole ++ (lines_of xs).left → (b : Bool) → nat_eq x 10 ≡ b
+    decide : xs ≡ flat_map with_newline (text_lines xs).whole ++ (text_lines xs).left → (b : Bool) → nat_eq x 10 ≡ b
         → x ∷ xs ≡ flat_map with_newline (parts b).whole ++ (parts b).left
     decide later true p = (λ i. eqb-true x 10 p i ∷ later i)
-    decide later false p = ap (λ l. x ∷ l) later ∙ put_whole x (lines_of xs).whole (lines_of xs).left
+    decide later false p = ap (λ l. x ∷ l) later ∙ put_whole x (text_lines xs).whole (text_lines xs).left
 
 all_none : All Spellable []
 all_none k d low = absurd (omega arith)
@@ -75,7 +75,7 @@ lines_found number [] left messages e = decide (nat_eq (length left) 0) refl e
     none_left (x ∷ xs) p = absurd (omega (arith, p))
 
     decide : (b : Bool) → nat_eq (length left) 0 ≡ b
-        → (if b then Ok [] else Err (left_fault number left (line_read left))) ≡ Ok messages → Told [] left messages
+        → (if b then Ok [] else Err (rest_fault number left (line_read left))) ≡ Ok messages → Told [] left messages
     decide true p h =
         subst (λ (l : List Message). Told [] left l) (list_is [] messages h)
         (none_left left (eqb-true (length left) 0 p), all_none)
@@ -112,7 +112,7 @@ pub text_found : (text : List ℕ) (messages : List Message) → text_read text 
     → (text ≡ text_of messages) × All Spellable messages
 unfolding text_read
 text_found text messages e =
-    let told = lines_found 1 (lines_of text).whole (lines_of text).left messages e in
+    let told = lines_found 1 (text_lines text).whole (text_lines text).left messages e in
     (lines_whole text ∙ told.0, told.1)
 
 -- ---- what is there is read

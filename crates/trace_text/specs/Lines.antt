@@ -127,9 +127,9 @@ abbrev pub words_of : Message → List ℕ
 words_of message = kind_word message.body ++ flat_map spaced (fields_of message.head message.body)
 
 -- the line of a message
-abbrev pub line_of : Message → List ℕ
-line_of message = words_of message ++ newline
+abbrev pub message_line : Message → List ℕ
+message_line message = words_of message ++ newline
 
 -- the text of messages: their lines, one behind the other
 abbrev pub text_of : List Message → List ℕ
-text_of messages = flat_map line_of messages
+text_of messages = flat_map message_line messages

@@ -14,8 +14,8 @@ use Rattle.msg_frames.specs.declared.message.Body.{Body}
 use Rattle.msg_frames.specs.declared.message.Body.TheVariants as body
 use Rattle.msg_frames.specs.declared.message.Message.{Message}
 use Rattle.numerals.specs.Numerals.{hexadecimal_in}
-use Rattle.trace_text.specs.Values.{most32, most64, is_text, between, multiple, target_in, poked_value_in}
-use Rattle.trace_text.specs.Values.{piece_bytes_in, line_bytes_in, trap_in, rd_in, csrs_in}
+use Rattle.trace_text.specs.Values.{most32, most64, is_text, between, multiple, target_word, poked_value_in}
+use Rattle.trace_text.specs.Values.{piece_bytes_in, line_bytes_in, trap_word, rd_word, csrs_word}
 use Rattle.trace_text.specs.Words.{◌>>=◌, until, field, ended}
 use Rattle.trace_text.specs.declared.kinds.Kind.{Kind}
 use Rattle.trace_text.specs.declared.kinds.Kind.TheVariants as kind
@@ -71,7 +71,7 @@ open_at line at = do
 -- what a Poke sets, and the value
 unfoldable pub poke_at : List ℕ → ℕ → Result Poke ℕ
 poke_at line at = do
-  target ← field (codes "reg=") target_in line at
+  target ← field (codes "reg=") target_word line at
   value ← field (codes "value=") (poked_value_in target.0) line target.1
   end ← ended line value.1
   Ok (record { target = target.0; value = value.0 })
@@ -104,9 +104,9 @@ fetch_at line at = do
 -- the trap, the register and the CSRs
 unfoldable pub outcome_at : List ℕ → ℕ → Result (Option ℕ × Option RdValue × List CsrValue) ℕ
 outcome_at line at = do
-  trap ← field (codes "trap=") trap_in line at
-  rd ← field (codes "rd=") rd_in line trap.1
-  csrs ← field (codes "csrs=") csrs_in line rd.1
+  trap ← field (codes "trap=") trap_word line at
+  rd ← field (codes "rd=") rd_word line trap.1
+  csrs ← field (codes "csrs=") csrs_word line rd.1
   end ← ended line csrs.1
   Ok (trap.0, rd.0, csrs.0)
 

@@ -24,11 +24,11 @@ put_byte byte [] left = record { whole = []; left = byte ∷ left }
 put_byte byte (line ∷ lines) left = record { whole = (byte ∷ line) ∷ lines; left = left }
 
 -- the lines of a text; 10 is the newline
-abbrev pub lines_of : List ℕ → Lines
-lines_of [] = record { whole = []; left = [] }
-lines_of (byte ∷ bytes) =
-    if byte == 10 then record { whole = [] ∷ (lines_of bytes).whole; left = (lines_of bytes).left }
-    else put_byte byte (lines_of bytes).whole (lines_of bytes).left
+abbrev pub text_lines : List ℕ → Lines
+text_lines [] = record { whole = []; left = [] }
+text_lines (byte ∷ bytes) =
+    if byte == 10 then record { whole = [] ∷ (text_lines bytes).whole; left = (text_lines bytes).left }
+    else put_byte byte (text_lines bytes).whole (text_lines bytes).left
 
 -- the column of the word at a place, from 1
 abbrev pub fault_at : ℕ → ℕ → TextFault
@@ -36,13 +36,13 @@ fault_at line place = fault.Form line (place + 1)
 
 -- what is left behind the last newline has to be nothing: its first wrong word is named, or where it
 -- has none the newline that is missing
-abbrev pub left_fault : ℕ → List ℕ → Result Message ℕ → TextFault
-left_fault number left (Ok _) = fault_at number (length left)
-left_fault number left (Err place) = fault_at number place
+abbrev pub rest_fault : ℕ → List ℕ → Result Message ℕ → TextFault
+rest_fault number left (Ok _) = fault_at number (length left)
+rest_fault number left (Err place) = fault_at number place
 
 -- the messages of the lines that are left, the first of them with this number
 abbrev pub left_read : ℕ → List ℕ → Result (List Message) TextFault
-left_read number left = if length left == 0 then Ok [] else Err (left_fault number left (line_read left))
+left_read number left = if length left == 0 then Ok [] else Err (rest_fault number left (line_read left))
 
 -- a message in front of others
 abbrev pub message_before : Message → Result (List Message) TextFault → Result (List Message) TextFault
@@ -61,7 +61,7 @@ lines_read number (line ∷ lines) left = line_before number (line_read line) (l
 
 -- the messages of a text whose first line has this number
 abbrev pub text_from : ℕ → List ℕ → Result (List Message) TextFault
-text_from number text = lines_read number (lines_of text).whole (lines_of text).left
+text_from number text = lines_read number (text_lines text).whole (text_lines text).left
 
 -- the messages of a text
 unfoldable pub text_read : List ℕ → Result (List Message) TextFault
@@ -77,8 +77,8 @@ line_answer size start end (Ok message) =
 
 -- the line that begins at a place, or nothing where the text ends there; else the column of what is
 -- wrong
-unfoldable pub line_at : List ℕ → ℕ → Result (Option TextLine) ℕ
-line_at text start =
+unfoldable pub text_line_at : List ℕ → ℕ → Result (Option TextLine) ℕ
+text_line_at text start =
     if start == length text then Ok None
     else line_answer (length text) start (start + length (until 10 (drop start text)))
     (line_read (until 10 (drop start text)))

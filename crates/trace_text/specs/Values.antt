@@ -59,8 +59,8 @@ poked None = None
 poked (Some number) = if is_poked_csr number then Some (Csr number) else None
 
 -- `pc`, or `xN` for the registers x1 to x31, or the number of a CSR
-abbrev pub target_in : List ℕ → Option Target
-target_in text =
+abbrev pub target_word : List ℕ → Option Target
+target_word text =
     if is_text text (codes "pc") then Some Pc
     else if starts_with nat_eq text (codes "x") then option_map (λ number. X number) (between 1 31 (drop 1 text))
     else poked (hexadecimal_in most16 text)
@@ -108,8 +108,8 @@ line_bytes_in mask text = if_masked mask (bytes_in 64 text)
 -- ---- the outcome of an instruction
 
 -- `-`, or the cause of a trap
-abbrev pub trap_in : List ℕ → Option (Option ℕ)
-trap_in text = if is_text text (codes "-") then Some None else option_map (λ cause. Some cause) (between 0 255 text)
+abbrev pub trap_word : List ℕ → Option (Option ℕ)
+trap_word text = if is_text text (codes "-") then Some None else option_map (λ cause. Some cause) (between 0 255 text)
 
 -- a register and its value
 abbrev pub rd_of : Option ℕ → Option ℕ → Option RdValue
@@ -122,8 +122,8 @@ abbrev pub register_in : List ℕ → Option RdValue
 register_in text = rd_of (between 1 31 (until 58 text)) (hexadecimal_in most64 (behind 58 text))
 
 -- `-`, or the register that was written, with its value
-abbrev pub rd_in : List ℕ → Option (Option RdValue)
-rd_in text =
+abbrev pub rd_word : List ℕ → Option (Option RdValue)
+rd_word text =
     if is_text text (codes "-") then Some None
     else if starts_with nat_eq text (codes "x") then option_map (λ rd. Some rd) (register_in (drop 1 text))
     else None
@@ -152,5 +152,5 @@ some_csrs_in (suc room) text =
     (if length (until 44 text) == length text then Some [] else some_csrs_in room (behind 44 text))
 
 -- `-`, or one to four CSRs
-abbrev pub csrs_in : List ℕ → Option (List CsrValue)
-csrs_in text = if is_text text (codes "-") then Some [] else some_csrs_in 4 text
+abbrev pub csrs_word : List ℕ → Option (List CsrValue)
+csrs_word text = if is_text text (codes "-") then Some [] else some_csrs_in 4 text

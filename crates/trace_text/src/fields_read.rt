@@ -4,8 +4,8 @@
 
 ghost use Rattle.std.specs.Prelude.{◌≡◌, ◌≤◌, codes, length, IfOk, IfErr};
 ghost use Rattle.numerals.specs.Numerals.{hexadecimal_in};
-ghost use Rattle.trace_text.specs.Values.{between, multiple, target_in, poked_value_in, piece_bytes_in};
-ghost use Rattle.trace_text.specs.Values.{line_bytes_in, trap_in, rd_in, csrs_in};
+ghost use Rattle.trace_text.specs.Values.{between, multiple, target_word, poked_value_in, piece_bytes_in};
+ghost use Rattle.trace_text.specs.Values.{line_bytes_in, trap_word, rd_word, csrs_word};
 ghost use Rattle.trace_text.specs.Words.{field};
 
 use super::spellings;
@@ -73,7 +73,7 @@ pub(crate) fn address(line: &[u8], at: usize) -> Result<(u64, usize), usize>
 /// What a Poke sets.
 pub(crate) fn target(line: &[u8], at: usize) -> Result<(Target, usize), usize>
     requires { at ≤ length line.now }
-    ensures value { result ≡ field (codes "reg=") target_in line.now at }
+    ensures value { result ≡ field (codes "reg=") target_word line.now at }
     ensures bound { IfOk result (λ read. read.1 ≤ length line.now) }
     ensures place { IfErr result (λ place. place ≤ length line.now) }
 {
@@ -129,7 +129,7 @@ pub(crate) fn line_bytes(line: &[u8], at: usize, mask: u64) -> Result<([u8; 64],
 /// The cause of a trap, or none.
 pub(crate) fn trap(line: &[u8], at: usize) -> Result<(Option<u8>, usize), usize>
     requires { at ≤ length line.now }
-    ensures value { result ≡ field (codes "trap=") trap_in line.now at }
+    ensures value { result ≡ field (codes "trap=") trap_word line.now at }
     ensures bound { IfOk result (λ read. read.1 ≤ length line.now) }
     ensures place { IfErr result (λ place. place ≤ length line.now) }
 {
@@ -143,7 +143,7 @@ pub(crate) fn trap(line: &[u8], at: usize) -> Result<(Option<u8>, usize), usize>
 /// The register that was written, or none.
 pub(crate) fn rd(line: &[u8], at: usize) -> Result<(Option<RdValue>, usize), usize>
     requires { at ≤ length line.now }
-    ensures value { result ≡ field (codes "rd=") rd_in line.now at }
+    ensures value { result ≡ field (codes "rd=") rd_word line.now at }
     ensures bound { IfOk result (λ read. read.1 ≤ length line.now) }
     ensures place { IfErr result (λ place. place ≤ length line.now) }
 {
@@ -157,7 +157,7 @@ pub(crate) fn rd(line: &[u8], at: usize) -> Result<(Option<RdValue>, usize), usi
 /// The CSRs that were written.
 pub(crate) fn csrs(line: &[u8], at: usize) -> Result<(CsrList, usize), usize>
     requires { at ≤ length line.now }
-    ensures value { result ≡ field (codes "csrs=") csrs_in line.now at }
+    ensures value { result ≡ field (codes "csrs=") csrs_word line.now at }
     ensures bound { IfOk result (λ read. read.1 ≤ length line.now) }
     ensures place { IfErr result (λ place. place ≤ length line.now) }
 {

@@ -3,7 +3,7 @@
 ghost use Rattle.std.specs.Prelude.{◌≡◌, ◌+◌, ◌≤◌, ◌++◌, ◌∷◌, [], length};
 ghost use Rattle.std.specs.List.{flat_map};
 ghost use Rattle.tandem_base.specs.Puts.{Puts};
-ghost use Rattle.trace_text.specs.Lines.{spaced, fields_of, kind_word, line_of, hart_field, time_field, tag_field};
+ghost use Rattle.trace_text.specs.Lines.{spaced, fields_of, kind_word, message_line, hart_field, time_field, tag_field};
 ghost use Rattle.trace_text.specs.Lines.{piece_fields};
 
 use super::fields::{
@@ -19,7 +19,7 @@ pub const LONGEST_LINE: usize = 330;
 /// offset behind it.
 pub fn put_line(out: &mut [u8], at: usize, message: &Message) -> usize
     requires { at + 330 ≤ length out.old }
-    ensures puts { Puts at out.old result out.new (line_of message.now) }
+    ensures puts { Puts at out.old result out.new (message_line message.now) }
     ensures bound { result ≤ at + 330 }
 {
     let end = put(out, at, kind_word(&message.body));

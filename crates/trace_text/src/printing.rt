@@ -3,7 +3,7 @@
 ghost use Rattle.std.specs.Prelude.{◌≡◌, ◌<◌, ◌≤◌, length, take, OnOk, IfErr};
 ghost use Rattle.std.specs.Io.KnownBytes.{Appends};
 ghost use Rattle.tandem_io.specs.Causes.{HasCause};
-ghost use Rattle.trace_text.specs.Lines.{line_of};
+ghost use Rattle.trace_text.specs.Lines.{message_line};
 
 use super::lines::{LONGEST_LINE, put_line};
 use msg_frames::Message;
@@ -12,10 +12,10 @@ use tandem_io::{Sink, WriteFailed, write_all};
 /// Writes the line of a message, with its newline, to `out`. Takes no memory. After an error the
 /// sink took just the first `put` bytes of the line.
 pub fn to_text<K: Sink>(message: &Message, out: &mut K) -> Result<(), WriteFailed>
-    ensures ok { OnOk result (Appends (K.written out.old) (K.written out.new) (line_of message.now)) }
+    ensures ok { OnOk result (Appends (K.written out.old) (K.written out.new) (message_line message.now)) }
     ensures err { IfErr result (λ failed.
-        Appends (K.written out.old) (K.written out.new) (take failed.put (line_of message.now))) }
-    ensures part { IfErr result (λ failed. failed.put < length (line_of message.now)) }
+        Appends (K.written out.old) (K.written out.new) (take failed.put (message_line message.now))) }
+    ensures part { IfErr result (λ failed. failed.put < length (message_line message.now)) }
     ensures cause { HasCause (K.faults out.old) (K.faults out.new) result }
     ensures count { K.faults out.old ≤ K.faults out.new }
 {
@@ -26,10 +26,10 @@ pub fn to_text<K: Sink>(message: &Message, out: &mut K) -> Result<(), WriteFaile
 // Writes the line, over lent bytes.
 fn print_over<K: Sink>(message: &Message, text: &mut [u8], out: &mut K) -> Result<(), WriteFailed>
     requires { length text.old ≡ 330 }
-    ensures ok { OnOk result (Appends (K.written out.old) (K.written out.new) (line_of message.now)) }
+    ensures ok { OnOk result (Appends (K.written out.old) (K.written out.new) (message_line message.now)) }
     ensures err { IfErr result (λ failed.
-        Appends (K.written out.old) (K.written out.new) (take failed.put (line_of message.now))) }
-    ensures part { IfErr result (λ failed. failed.put < length (line_of message.now)) }
+        Appends (K.written out.old) (K.written out.new) (take failed.put (message_line message.now))) }
+    ensures part { IfErr result (λ failed. failed.put < length (message_line message.now)) }
     ensures cause { HasCause (K.faults out.old) (K.faults out.new) result }
     ensures count { K.faults out.old ≤ K.faults out.new }
 {

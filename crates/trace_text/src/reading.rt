@@ -33,11 +33,7 @@ fn message_at(kind: Kind, line: &[u8], at: usize) -> Result<Message, usize>
     ensures place { IfErr result (λ place. place ≤ length line.now) }
 {
     match kind {
-        Kind::Open => {
-            let (head, at) = timed(line, at)?;
-            let body = Body::Open(open(line, at)?);
-            Ok(Message { head, body })
-        }
+        Kind::Open => open_message(line, at),
         Kind::Poke => {
             let (head, at) = placed(line, at)?;
             let body = Body::Poke(poke(line, at)?);
@@ -68,19 +64,47 @@ fn message_at(kind: Kind, line: &[u8], at: usize) -> Result<Message, usize>
             let body = Body::Retire(retire(line, at)?);
             Ok(Message { head, body })
         }
-        Kind::Squash => {
-            let (head, at) = tagged(line, at)?;
-            ended(line, at)?;
-            let body = Body::Squash;
-            Ok(Message { head, body })
-        }
-        Kind::End => {
-            let (head, at) = timed(line, at)?;
-            ended(line, at)?;
-            let body = Body::End;
-            Ok(Message { head, body })
-        }
+        Kind::Squash => squash_message(line, at),
+        Kind::End => end_message(line, at),
     }
+}
+
+// An Open.
+#[tactic(auto, unfolding(crate::specs::Reading::message_at))]
+fn open_message(line: &[u8], at: usize) -> Result<Message, usize>
+    requires { at ≤ length line.now }
+    ensures value { result ≡ message_at Kind.Open line.now at }
+    ensures place { IfErr result (λ place. place ≤ length line.now) }
+{
+    let (head, at) = timed(line, at)?;
+    let body = Body::Open(open(line, at)?);
+    Ok(Message { head, body })
+}
+
+// A Squash.
+#[tactic(auto, unfolding(crate::specs::Reading::message_at))]
+fn squash_message(line: &[u8], at: usize) -> Result<Message, usize>
+    requires { at ≤ length line.now }
+    ensures value { result ≡ message_at Kind.Squash line.now at }
+    ensures place { IfErr result (λ place. place ≤ length line.now) }
+{
+    let (head, at) = tagged(line, at)?;
+    ended(line, at)?;
+    let body = Body::Squash;
+    Ok(Message { head, body })
+}
+
+// An End.
+#[tactic(auto, unfolding(crate::specs::Reading::message_at))]
+fn end_message(line: &[u8], at: usize) -> Result<Message, usize>
+    requires { at ≤ length line.now }
+    ensures value { result ≡ message_at Kind.End line.now at }
+    ensures place { IfErr result (λ place. place ≤ length line.now) }
+{
+    let (head, at) = timed(line, at)?;
+    ended(line, at)?;
+    let body = Body::End;
+    Ok(Message { head, body })
 }
 
 // The time alone.

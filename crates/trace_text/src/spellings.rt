@@ -3,10 +3,10 @@
 ghost use Rattle.std.specs.Prelude.{◌≡◌, ◌<◌, ◌≤◌, ◌*◌, false, true, length, IfSome, MatchOption};
 ghost use Rattle.hex.specs.Hex.{encode_lower};
 ghost use Rattle.msg_frames.specs.Frames.{is_poked_csr};
-ghost use Rattle.msg_frames.specs.Reading.{is_stray};
-ghost use Rattle.trace_text.specs.Values.{is_text, between, multiple, target_in, poked_value_in, bytes_in};
-ghost use Rattle.trace_text.specs.Values.{piece_bytes_in, is_masked, line_bytes_in, trap_in, register_in, rd_in};
-ghost use Rattle.trace_text.specs.Values.{csr_in, some_csrs_in, csrs_in};
+ghost use Rattle.msg_frames.specs.Reading.{is_stray_byte};
+ghost use Rattle.trace_text.specs.Values.{is_text, between, multiple, target_word, poked_value_in, bytes_in};
+ghost use Rattle.trace_text.specs.Values.{piece_bytes_in, is_masked, line_bytes_in, trap_word, register_in, rd_word};
+ghost use Rattle.trace_text.specs.Values.{csr_in, some_csrs_in, csrs_word};
 
 use super::words::parted;
 use msg_frames::{CsrList, CsrValue, RdValue, Target};
@@ -46,7 +46,7 @@ pub(crate) fn multiple(text: &[u8], unit: u64) -> Option<u64>
 
 /// What a Poke sets.
 pub(crate) fn target(text: &[u8]) -> Option<Target>
-    ensures { result ≡ target_in text.now }
+    ensures { result ≡ target_word text.now }
 {
     if is_text(text, b"pc") {
         return Some(Target::Pc);
@@ -176,14 +176,14 @@ fn is_masked(mask: u64, bytes: &[u8]) -> bool
 // Whether byte `k` of a line is outside the mask, and not 0.
 fn is_stray(mask: u64, k: u8, byte: u8) -> bool
     requires { k < 64 }
-    ensures { result ≡ is_stray mask k byte }
+    ensures { result ≡ is_stray_byte mask k byte }
 {
     (mask >> k) % 2 == 0 && byte != 0
 }
 
 /// No trap, or its cause.
 pub(crate) fn trap(text: &[u8]) -> Option<Option<u8>>
-    ensures { result ≡ trap_in text.now }
+    ensures { result ≡ trap_word text.now }
 {
     if is_text(text, b"-") {
         return Some(None);
@@ -196,7 +196,7 @@ pub(crate) fn trap(text: &[u8]) -> Option<Option<u8>>
 
 /// No register, or the one that was written with its value.
 pub(crate) fn rd(text: &[u8]) -> Option<Option<RdValue>>
-    ensures { result ≡ rd_in text.now }
+    ensures { result ≡ rd_word text.now }
 {
     if is_text(text, b"-") {
         return Some(None);
@@ -246,7 +246,7 @@ fn csr(text: &[u8]) -> Option<CsrValue>
 
 /// No CSRs, or one to four.
 pub(crate) fn csrs(text: &[u8]) -> Option<CsrList>
-    ensures { result ≡ csrs_in text.now }
+    ensures { result ≡ csrs_word text.now }
 {
     if is_text(text, b"-") {
         return Some(CsrList::new());

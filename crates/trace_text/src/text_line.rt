@@ -1,7 +1,8 @@
 //! One line of a text.
 
 ghost use Rattle.std.specs.Prelude.{◌≡◌, ◌<◌, ◌≤◌, ⊤, length, IfOk, MatchOption};
-ghost use Rattle.trace_text.specs.Texts.{line_at};
+ghost use Rattle.msg_frames.specs.Frames.{Fits};
+ghost use Rattle.trace_text.specs.Texts.{text_line_at};
 
 use super::reading::line_read;
 use super::words::part_from;
@@ -18,10 +19,11 @@ pub struct TextLine {
 
 /// The line that begins at offset `start` of a text, or none where the text ends there. Else the
 /// column, from 1, of what is wrong in the line. Takes no memory.
-#[tactic(auto, unfolding(crate::specs::Texts::line_at))]
+#[tactic(auto, unfolding(crate::specs::Texts::text_line_at))]
 pub fn next_line(text: &[u8], start: usize) -> Result<Option<TextLine>, u64>
     requires { start ≤ length text.now }
-    ensures read { result ≡ line_at text.now start }
+    ensures read { result ≡ text_line_at text.now start }
+    ensures fits { IfOk result (λ line. MatchOption line ⊤ (λ l. Fits l.message)) }
     ensures bound { IfOk result (λ line. MatchOption line ⊤ (λ l. (start < l.next) × (l.next ≤ length text.now))) }
 {
     if start == text.len() {

@@ -1,5 +1,5 @@
 use Rattle.std.proofs.Common.{◌≡◌, ◌+◌, append-nil, drop, length, ◌<◌, ◌≤◌, inr, Ok, Some, None, sym, ap, ◌∙◌, arith}
-use Rattle.trace_text.specs.Texts.{text_from, text_read, line_at}
+use Rattle.trace_text.specs.Texts.{text_from, text_read, text_line_at}
 use Rattle.trace_text.proofs.TextLaws.{after_messages, after_none, after_one, next_none, next_some, next_err}
 use Rattle.trace_text.proofs.text.read_lines.Goals as goal
 
@@ -25,7 +25,7 @@ returns-in-Err c =
 pub returns-in-Ok-None : goal.returns-in-Ok-None
 returns-in-Ok-None c =
     let l = c.loop-column in
-    let e : line_at c.args.text.now l.start ≡ Ok None =
+    let e : text_line_at c.args.text.now l.start ≡ Ok None =
     cc (c.next_line.ensures.read, c.in-Ok-None.is, c.in-Ok-None.field-0-is) in
     inr (ap Ok (sym (append-nil l.messages))
     ∙ sym (ap (after_messages l.messages) (next_none c.args.text.now l.start l.number e)) ∙ l.invariant.same)
@@ -35,7 +35,7 @@ pub loop-column-preserved : goal.loop-column-preserved
 loop-column-preserved c =
     let l = c.loop-column in
     let line = c.in-Ok-Some.line in
-    let e : line_at c.args.text.now l.start ≡ Ok (Some line) =
+    let e : text_line_at c.args.text.now l.start ≡ Ok (Some line) =
     cc (c.next_line.ensures.read, c.in-Ok-Some.is, c.in-Ok-Some.field-0-is) in
     let rest = text_from (l.number + 1) (drop line.next c.args.text.now) in
     let bound : (l.start < line.next) × (line.next ≤ length c.args.text.now) =

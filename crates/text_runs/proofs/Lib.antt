@@ -1,0 +1,4 @@
+pub mod Fronts
+pub mod Gathering
+pub mod PrintLaws
+pub mod Texts
