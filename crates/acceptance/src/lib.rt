@@ -1,5 +1,6 @@
-//! Whole runs of `tandem check` over inputs in memory, against lines and statuses that were worked
-//! out by hand. There is nothing here but tests.
+//! Runs of `tandem check` over inputs in memory that a table can't say: calls that fail, and streams
+//! and images that code makes; and the checker that is fed one message at a time. There is nothing
+//! here but tests.
 #![tactic(auto)]
 
 #[cfg(test)]
@@ -8,7 +9,5 @@ mod failing;
 mod feeding;
 #[cfg(test)]
 mod large;
-#[cfg(test)]
-mod runs;
 #[cfg(test)]
 mod support;

@@ -3,24 +3,52 @@
 ghost use Rattle.std.specs.Prelude.{◌≤◌};
 
 use std::alloc::{AllocError, Global};
-use std::process::Abort;
 use std::test::Fail;
 use tandem_cli::run_check;
 use tandem_io::{MemInputs, MemSink};
 
-/// A run of `tandem check`, and what has to come of it.
-#[derive(Clone, Copy)]
-pub struct Run {
-    /// The image in hexadecimal, which is there as `i`.
-    pub image: &'static str,
-    /// The stream in hexadecimal, which is there as `s`.
-    pub stream: &'static str,
-    /// The words after the program's name, with single spaces between them.
-    pub words: &'static str,
-    /// The line that has to be written.
-    pub line: &'static str,
-    /// The status that has to be answered.
-    pub status: u8,
+/// The words of most runs.
+pub const WORDS: &str = "check i s --flat 0x80000000";
+
+/// An ADDI that writes 5 to x1.
+pub const ADDI: [u8; 4] = [0x93, 0x00, 0x50, 0x00];
+
+/// The frame of an Open.
+pub const OPEN: &str = "1a000100000000000000000000000000000000000101000000000000";
+
+/// The frame of that ADDI's Retire.
+pub const RETIRE: &str =
+    "32000700010000000000000001000000000000000000008000000000930050000400008000000000020001000500000000000000";
+
+/// The frame of an End behind them.
+pub const END: &str = "1200090002000000000000000000000000000000";
+
+/// The line of these three.
+pub const ACCEPTED: &str = "ACCEPT messages=3 retired=1 operations=0\n";
+
+/// The bytes of these texts in hexadecimal, one behind the other.
+pub fn joined(alloc: Global, texts: &[&str]) -> Result<Vec<u8>, Fail> {
+    let mut bytes = Vec::new(alloc);
+    for text in texts {
+        let piece = hex::decode(alloc, text)?;
+        bytes.extend_from_slice(&piece)?;
+    }
+    Ok(bytes)
+}
+
+/// Inputs with this image as `i` and this stream as `s`, read in pieces of at most `step` bytes.
+pub fn inputs_of(
+    alloc: Global,
+    image: &[u8],
+    stream: &[u8],
+    step: usize,
+) -> Result<MemInputs, AllocError>
+    requires { 1 ≤ step }
+{
+    let mut ins = MemInputs::new(alloc, step);
+    ins.add("i", image)?;
+    ins.add("s", stream)?;
+    Ok(ins)
 }
 
 /// The words of the text, which single spaces part.
@@ -32,48 +60,15 @@ pub fn words_of(alloc: Global, text: &str) -> Result<Vec<String>, AllocError> {
     Ok(words)
 }
 
-/// Inputs with the image as `i` and the stream as `s`, read in pieces of at most `step` bytes.
-pub fn inputs_of(alloc: Global, run: &Run, step: usize) -> Result<MemInputs, Fail>
-    requires { 1 ≤ step }
-{
-    let image = hex::decode(alloc, run.image)?;
-    let stream = hex::decode(alloc, run.stream)?;
-    let mut ins = MemInputs::new(alloc, step);
-    ins.add("i", &image)?;
-    ins.add("s", &stream)?;
-    Ok(ins)
-}
-
-/// Runs each of them, with reads of at most `step` bytes.
-pub fn expect_all(rt: &impl Abort, alloc: Global, runs: &[Run], step: usize) -> Result<(), Fail>
-    requires { 1 ≤ step }
-{
-    for run in runs {
-        expect(rt, alloc, run, step)?;
-    }
-    Ok(())
-}
-
-fn expect(rt: &impl Abort, alloc: Global, run: &Run, step: usize) -> Result<(), Fail>
-    requires { 1 ≤ step }
-{
-    let mut ins = inputs_of(alloc, run, step)?;
-    expect_line(rt, alloc, run.words, &mut ins, run.line, run.status)
-}
-
-/// Runs the words over these inputs, and expects that line and that status.
-pub fn expect_line(
-    rt: &impl Abort,
+/// Whether a run of the most usual words over these inputs writes this line and answers this status.
+pub fn answers(
     alloc: Global,
-    words: &str,
     ins: &mut MemInputs,
     line: &str,
     status: u8,
-) -> Result<(), Fail> {
-    let words = words_of(alloc, words)?;
-    let mut out = MemSink::new(alloc, 8192, 512)?;
+) -> Result<bool, AllocError> {
+    let words = words_of(alloc, WORDS)?;
+    let mut out = MemSink::new(alloc, 512, 512)?;
     let answered = run_check(alloc, &words, ins, &mut out);
-    assert_eq!(rt; out.bytes(), line.as_bytes());
-    assert_eq!(rt; answered, status);
-    Ok(())
+    Ok(answered == status && out.bytes() == line.as_bytes())
 }

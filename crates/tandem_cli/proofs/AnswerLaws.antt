@@ -13,12 +13,12 @@ use Rattle.tandem_cli.specs.declared.outcome.Outcome.{Outcome}
 use Rattle.tandem_cli.specs.declared.outcome.Outcome.TheVariants as outcome
 use Rattle.tandem_cli.specs.Words.{Asked}
 use Rattle.tandem_cli.specs.Checks.{answer_of, answer_to_file, answer_to_image, answer_to_stream, IsJudged}
-use Rattle.tandem_cli.specs.Checks.{OutcomeIs, Caused}
+use Rattle.tandem_cli.specs.Checks.{OutcomeIs, OutcomeReads, Caused}
 use Rattle.tandem_cli.specs.Answers.{Due, due_for, Prints, PrintsDue, ChecksAs, NoFaultRose, Settled, AnswersUsage}
 use Rattle.tandem_cli.specs.Answers.{AnswersTo, refused, answered}
 
 -- a count that didn't rise
-not_risen : (before after : ℕ) → after ≤ before → before < 2 ^ 64 - 1 → Rose before after → ⊥
+pub not_risen : (before after : ℕ) → after ≤ before → before < 2 ^ 64 - 1 → Rose before after → ⊥
 not_risen before after stays below (inl rises) = omega arith
 not_risen before after stays below (inr last) = omega arith
 
@@ -40,10 +40,10 @@ verdict_is asked names v left judged =
     ∙ ap outcome.Judged judged.verdict
 
 -- what was printed where the sink's count didn't rise
-printed : {due : Due} {result : ℕ} {old new : Option (List ℕ)} {before after : ℕ} → after ≤ before →
+pub printed_quietly : {due : Due} {result : ℕ} {old new : Option (List ℕ)} {before after : ℕ} → after ≤ before →
     before < 2 ^ 64 - 1 → Prints due result old new before after → (result ≡ due.status) × Appends old new due.line
-printed stays below (inl whole) = whole
-printed {before = before} {after = after} stays below (inr failed) =
+printed_quietly stays below (inl whole) = whole
+printed_quietly {before = before} {after = after} stays below (inr failed) =
     absurd (not_risen before after stays below failed.1)
 
 settled_by : (asked : Asked) (names : List Named) (slots slots' : Slots) (result : ℕ) (old new : Option (List ℕ))
@@ -52,7 +52,7 @@ settled_by : (asked : Asked) (names : List Named) (slots slots' : Slots) (result
     Settled asked names slots' result old new
 settled_by asked names slots slots' result old new before after
     (outcome.Unloaded no_image.Missing) is caused quiet prints =
-    let line = printed quiet.out.0 quiet.out.1 prints in
+    let line = printed_quietly quiet.out.0 quiet.out.1 prints in
     settle asked names slots' result old new (outcome.Unloaded no_image.Missing) _ is refl line.0 line.1 is
 settled_by asked names slots slots' result old new before after
     (outcome.Unloaded no_image.Unopened) is caused quiet prints =
@@ -62,14 +62,14 @@ settled_by asked names slots slots' result old new before after
     absurd (not_risen slots.image.faults slots'.image.faults quiet.image.0 quiet.image.1 caused.0.0)
 settled_by asked names slots slots' result old new before after
     (outcome.Unloaded (no_image.Refused fault)) is caused quiet prints =
-    let line = printed quiet.out.0 quiet.out.1 prints in
+    let line = printed_quietly quiet.out.0 quiet.out.1 prints in
     settle asked names slots' result old new (outcome.Unloaded (no_image.Refused fault)) _ is refl line.0 line.1 is
 settled_by asked names slots slots' result old new before after
     (outcome.Unloaded no_image.Memory) is caused quiet prints =
     refused prints
 settled_by asked names slots slots' result old new before after
     (outcome.Unjudged no_verdict.Missing) is caused quiet prints =
-    let line = printed quiet.out.0 quiet.out.1 prints in
+    let line = printed_quietly quiet.out.0 quiet.out.1 prints in
     settle asked names slots' result old new (outcome.Unjudged no_verdict.Missing) _ is refl line.0 line.1 is
 settled_by asked names slots slots' result old new before after
     (outcome.Unjudged no_verdict.Unopened) is caused quiet prints =
@@ -82,7 +82,7 @@ settled_by asked names slots slots' result old new before after
     refused prints
 settled_by asked names slots slots' result old new before after
     (outcome.Judged v) is caused quiet prints =
-    let line = printed quiet.out.0 quiet.out.1 prints in
+    let line = printed_quietly quiet.out.0 quiet.out.1 prints in
     settle asked names slots' result old new (outcome.Judged v) _ (verdict_is asked names v slots'.stream.left is) refl
     line.0 line.1 is
 
@@ -110,13 +110,19 @@ pub memory_refused : (asked : Asked) (names : Option (List Named)) (slots : Slot
 memory_refused asked names slots written faults = record {
   outcome = outcome.Unloaded no_image.Memory;
   is = nothing_said names;
-  caused = (tt, refl);
+  reads = nothing_read names;
+  caused = (inl refl, refl);
   prints = (refl, Appends-nil written);
 }
   where
     nothing_said : (names : Option (List Named)) → IfSome names (λ files. Unit {0})
     nothing_said None = tt
     nothing_said (Some files) = tt
+
+    nothing_read : (names : Option (List Named)) → IfSome names (λ files.
+        OutcomeReads asked files (outcome.Unloaded no_image.Memory) slots.image slots.image)
+    nothing_read None = tt
+    nothing_read (Some files) = inl refl
 
 -- the answer to words, by what is answered to words of another form, and of the form of `check`
 pub answers_to : (o : Option Asked) (names : Option (List Named)) (slots slots' : Slots) (result : ℕ)

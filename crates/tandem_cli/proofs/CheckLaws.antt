@@ -1,8 +1,8 @@
 -- What the readings of the inputs come to.
-use Rattle.std.proofs.Common.{◌≡◌, ℕ, ◌+◌, ◌<◌, ◌≤◌, ◌⊎◌, inl, inr, List, ◌++◌, length, drop, refl}
+use Rattle.std.proofs.Common.{◌≡◌, ℕ, ◌+◌, ◌^◌, ◌<◌, ◌≤◌, ◌⊎◌, inl, inr, List, ◌++◌, length, drop, refl}
 use Rattle.std.proofs.Common.{sym, ap, subst, ◌∙◌, arith, Option, None, Some, Result, Ok, Err, append-nil}
 use Rattle.std.proofs.Common.{length-append}
-use Rattle.std.specs.Prelude.{nat_lt, Bool, true, false, is_some, IfSome, MatchBool}
+use Rattle.std.specs.Prelude.{nat_lt, Bool, true, false, is_some, IfSome, IfOk, MatchBool}
 use Rattle.std.specs.Io.KnownBytes.{Consumes, Keeps, IsAtEnd}
 use Rattle.std.proofs.Math.Nat.{eq-or-lt_of_le}
 use Rattle.std.proofs.Math.Seq.{drop-append_seam}
@@ -19,7 +19,7 @@ use Rattle.verdict_report.specs.declared.verdict.Verdict.{Verdict}
 use Rattle.tandem_core.specs.declared.judging.Unjudged.{Unjudged}
 use Rattle.tandem_core.specs.declared.judging.Unjudged.TheVariants as unjudged
 use Rattle.tandem_core.specs.Judgements.{Judgement, judgement}
-use Rattle.tandem_core.specs.Judging.{JudgedIs}
+use Rattle.tandem_core.specs.Judging.{JudgedIs, TellsTruncation}
 use Rattle.tandem_cli.specs.declared.outcome.NoImage.TheVariants as no_image
 use Rattle.tandem_cli.specs.declared.outcome.NoVerdict.TheVariants as no_verdict
 use Rattle.tandem_cli.specs.declared.outcome.Outcome.TheVariants as outcome
@@ -44,7 +44,7 @@ refused (Some base) options bytes long = rw (too_large bytes long) refl
 -- the bytes that were read mean what the whole file means
 pub whole_means : (options : Chosen) (read content : List ℕ) (left : Option (List ℕ))
     → Consumes (Some content) left read →
-    (IsAtEnd left ⊎ (length read ≡ MOST_FILE_BYTES + 1)) → meaning_of options read ≡ meaning_of options content
+    (IsAtEnd left ⊎ (length read ≡ 2 ^ 28 + 1)) → meaning_of options read ≡ meaning_of options content
 whole_means options read content None consumed ends = absurd consumed
 whole_means options read content (Some rest) consumed (inl at_end) =
     let e : content ≡ read = consumed ∙ ap (λ (r : List ℕ). read ++ r) at_end ∙ append-nil read in
@@ -93,11 +93,11 @@ pub missing_image : (asked : Asked) (names : List Named) → content_of names as
     answer_of asked names ≡ outcome.Unloaded no_image.Missing
 missing_image asked names none = ap (λ (found : Option (List ℕ)). answer_to_file asked names found) none
 
-content_found : (found : Option (List ℕ)) → true ≡ is_some found → (bytes : List ℕ) × (found ≡ Some bytes)
+pub content_found : (found : Option (List ℕ)) → true ≡ is_some found → (bytes : List ℕ) × (found ≡ Some bytes)
 content_found (Some bytes) e = (bytes, refl)
 content_found None e = absurd (cc)
 
-content_none : (found : Option (List ℕ)) → false ≡ is_some found → found ≡ None
+pub content_none : (found : Option (List ℕ)) → false ≡ is_some found → found ≡ None
 content_none (Some bytes) e = absurd (cc)
 content_none None e = refl
 
@@ -107,7 +107,7 @@ pub whole_answer : (names : Option (List Named)) (asked : Asked) (found : Bool) 
     (answer : Result ImageOf ImageFault) → found ≡ true →
     IfSome names (λ files. found ≡ is_some (content_of files asked.image)) →
     MatchBool found (IfSome names (λ files. left ≡ content_of files asked.image)) (Keeps old left) →
-    Consumes left left' read → (IsAtEnd left' ⊎ (length read ≡ MOST_FILE_BYTES + 1))
+    Consumes left left' read → (IsAtEnd left' ⊎ (length read ≡ 2 ^ 28 + 1))
     → Reads answer (meaning_of asked.options read) →
     IfSome names (λ files. ImageIs asked files (image_read answer))
 whole_answer None asked found old left left' read answer is_there told holds consumed ends reads = tt
@@ -153,7 +153,7 @@ stream_is : (names : List Named) (asked : Asked) (image : Loaded) (judged : Resu
     StreamIs asked names (stream_judged judged) left
 stream_is names asked image (Ok v) stream got None there consumed decides accepted = absurd consumed
 stream_is names asked image (Ok v) stream got (Some rest) there consumed decides accepted =
-    let j : Judgement = record { verdict = v; taken = length got } in
+    let j : Judgement = record { verdict = v; taken = length got; frames = decides.frames } in
     let whole : judgement image asked.options.limits (got ++ rest) ≡ j =
     elim decides.verdict as (λ _. judgement image asked.options.limits (got ++ rest) ≡ j) [
       | inl always ↦ always rest
@@ -204,7 +204,8 @@ rose_on before mid after low high (inr last) =
 
 -- the cause of an answer on a stream that is there
 pub stream_caused : (judged : Result Verdict Unjudged) (before after : SlotView) → after.attached ≡ Some true →
+    IfOk judged (λ v. TellsTruncation v → after.ended ≡ true) →
     (judged ≡ Err unjudged.Failed → Rose before.faults after.faults) → StreamCaused (stream_judged judged) before after
-stream_caused (Ok v) before after attached rises = attached
-stream_caused (Err unjudged.Failed) before after attached rises = (rises refl, attached)
-stream_caused (Err unjudged.Memory) before after attached rises = attached
+stream_caused (Ok v) before after attached ends rises = record { attached = attached; ended = ends }
+stream_caused (Err unjudged.Failed) before after attached ends rises = (rises refl, attached)
+stream_caused (Err unjudged.Memory) before after attached ends rises = attached

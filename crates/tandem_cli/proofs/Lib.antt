@@ -1,5 +1,6 @@
 pub mod FitLaws
-pub mod FrontLaws
+pub mod TextLaws
+pub mod ProgramLaws
 pub mod NumberLaws
 pub mod OptionLaws
 pub mod CheckLaws

@@ -5,10 +5,11 @@ use Rattle.tandem_io.specs.Causes.{Rose}
 use Rattle.tandem_io.specs.Inputs.{Named, Slots}
 use Rattle.verdict_report.specs.declared.verdict.Verdict.{Verdict}
 use Rattle.verdict_report.specs.declared.verdict.Verdict.TheVariants as verdict
-use Rattle.verdict_report.specs.Lines.{line_of}
+use Rattle.verdict_report.specs.Lines.{verdict_line}
 use Rattle.tandem_cli.specs.Words.{Asked}
-use Rattle.tandem_cli.specs.Outcomes.{TakesFront, missing_line, failed_line, image_line, usage_line}
-use Rattle.tandem_cli.specs.Checks.{OutcomeIs, Caused, answer_of}
+use Rattle.text_runs.specs.Written.{TakesFront}
+use Rattle.tandem_cli.specs.Outcomes.{missing_line, failed_line, image_line, usage_line}
+use Rattle.tandem_cli.specs.Checks.{OutcomeIs, OutcomeReads, Caused, answer_of}
 use Rattle.tandem_cli.specs.declared.outcome.NoImage.{NoImage}
 use Rattle.tandem_cli.specs.declared.outcome.NoImage.TheVariants as no_image
 use Rattle.tandem_cli.specs.declared.outcome.NoVerdict.{NoVerdict}
@@ -47,7 +48,7 @@ status_of_verdict (verdict.Undecided message limit hart count) = 5
 abbrev pub due_for : Asked → Outcome → Option Due
 due_for asked (outcome.Unloaded why) = due_without_image asked.image why
 due_for asked (outcome.Unjudged why) = due_without_verdict asked.stream why
-due_for asked (outcome.Judged v) = Some (record { line = line_of v; status = status_of_verdict v })
+due_for asked (outcome.Judged v) = Some (record { line = verdict_line v; status = status_of_verdict v })
 
 -- what is due for words of another form
 abbrev pub usage_due : Due
@@ -69,11 +70,13 @@ abbrev pub PrintsDue : Option Due → ℕ → Option (List ℕ) → Option (List
 PrintsDue None result old new before after = PrintsNothing result old new
 PrintsDue (Some due) result old new before after = Prints due result old new before after
 
--- The answer to words of the form of `check`: an outcome with what it says and its cause, and its line.
+-- The answer to words of the form of `check`: an outcome with what it says, how much was read of the image, and its
+-- cause, and its line.
 pub record ChecksAs (asked : Asked) (names : Option (List Named)) (slots slots' : Slots) (result : ℕ)
     (old new : Option (List ℕ)) (before after : ℕ) : Type 0 where
   pub outcome : Outcome
   pub is : IfSome names (λ files. OutcomeIs asked files outcome slots'.stream.left)
+  pub reads : IfSome names (λ files. OutcomeReads asked files outcome slots.image slots'.image)
   pub caused : Caused outcome slots slots'
   pub prints : PrintsDue (due_for asked outcome) result old new before after
 

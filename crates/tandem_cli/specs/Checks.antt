@@ -1,5 +1,7 @@
 -- What `tandem check` is to answer, and what an outcome says.
-use Rattle.std.specs.Prelude.{ℕ, ◌≡◌, ◌≤◌, ◌++◌, true, false, List, drop, Option, Some, None, Result, Ok, Err}
+use Rattle.std.specs.Prelude.{ℕ, ◌≡◌, ◌+◌, ◌^◌, ◌≤◌, ◌⊎◌, ◌++◌, true, false, List, drop, length, Option, Some, None}
+use Rattle.std.specs.Prelude.{Result, Ok, Err}
+use Rattle.std.specs.Io.KnownBytes.{IsAtEnd, Keeps}
 use Rattle.tandem_io.specs.Causes.{Rose}
 use Rattle.tandem_io.specs.Inputs.{Named, SlotView, Slots, content_of}
 use Rattle.elf_image.specs.declared.fault.ImageFault.{ImageFault}
@@ -11,7 +13,7 @@ use Rattle.verdict_report.specs.declared.verdict.Verdict.{Verdict}
 use Rattle.tandem_core.specs.declared.judging.Unjudged.{Unjudged}
 use Rattle.tandem_core.specs.declared.judging.Unjudged.TheVariants as unjudged
 use Rattle.tandem_core.specs.Judgements.{judgement}
-use Rattle.tandem_core.specs.Judging.{Halts, Lacks}
+use Rattle.tandem_core.specs.Judging.{Halts, Lacks, TellsTruncation}
 use Rattle.tandem_cli.specs.Options.{Chosen}
 use Rattle.tandem_cli.specs.Words.{Asked}
 use Rattle.tandem_cli.specs.declared.file_fault.FileFault.TheVariants as file_fault
@@ -135,20 +137,56 @@ abbrev pub ImageIs : Asked → List Named → Result ImageOf NoImage → Type 0
 ImageIs asked names (Ok image) = IsAccepted asked names (loaded_of image)
 ImageIs asked names (Err why) = NoImageIs asked names why
 
--- the image was found, and its last read answered that nothing is left of it
+-- at most 2 ^ 28 + 1 bytes of the image that is asked for were read, and the rest is left
+pub record IsReadOn (asked : Asked) (names : List Named) (left : Option (List ℕ)) : Type 0 where
+  pub got : List ℕ
+  pub rest : List ℕ
+  pub file : content_of names asked.image ≡ Some (got ++ rest)
+  pub most : length got ≤ 2 ^ 28 + 1
+  pub left_is : left ≡ Some rest
+
+-- how much was read of an image that isn't there: where memory was refused before it was looked for, its slot is as it
+-- was
+abbrev pub NoImageReads : Asked → List Named → NoImage → SlotView → SlotView → Type 0
+NoImageReads asked names no_image.Missing before after = Unit {0}
+NoImageReads asked names no_image.Unopened before after = Unit {0}
+NoImageReads asked names no_image.Unread before after = IsReadOn asked names after.left
+NoImageReads asked names (no_image.Refused fault) before after = IsReadOn asked names after.left
+NoImageReads asked names no_image.Memory before after = (after ≡ before) ⊎ IsReadOn asked names after.left
+
+-- how much was read of the image, by the answer on it
+abbrev pub ImageReads : Asked → List Named → Result ImageOf NoImage → SlotView → SlotView → Type 0
+ImageReads asked names (Ok image) before after = IsReadOn asked names after.left
+ImageReads asked names (Err why) before after = NoImageReads asked names why before after
+
+-- the same, by the outcome
+abbrev pub OutcomeReads : Asked → List Named → Outcome → SlotView → SlotView → Type 0
+OutcomeReads asked names (outcome.Unloaded why) before after = NoImageReads asked names why before after
+OutcomeReads asked names (outcome.Unjudged why) before after = IsReadOn asked names after.left
+OutcomeReads asked names (outcome.Judged v) before after = IsReadOn asked names after.left
+
+-- the image was found, its last read answered that nothing is left of it, and nothing is
 pub record IsReadWhole (image : SlotView) : Type 0 where
   pub attached : image.attached ≡ Some true
   pub ended : image.ended ≡ true
+  pub at_end : IsAtEnd image.left
 
--- Why there is no image, by the image's slot. Where it could not be opened the slot stands as it was, and where it
--- could not be read or is refused it was found.
+-- a slot holds what it held, and no read of it was made
+pub record HoldsStill (before after : SlotView) : Type 0 where
+  pub left : Keeps before.left after.left
+  pub ended : after.ended ≡ before.ended
+
+-- Why there is no image, by the image's slot. Where it isn't there or could not be opened the slot holds what it held,
+-- and where it could not be read or is refused it was found. Memory was refused before it was looked for, or after it
+-- was found.
 abbrev pub NoImageCaused : NoImage → SlotView → SlotView → Type 0
-NoImageCaused no_image.Missing before after = after.attached ≡ Some false
+NoImageCaused no_image.Missing before after = (after.attached ≡ Some false) × HoldsStill before after
 NoImageCaused no_image.Unopened before after =
-    Rose before.faults after.faults × (after.attached ≡ before.attached) × (after.ended ≡ before.ended)
-NoImageCaused no_image.Unread before after = Rose before.faults after.faults × (after.attached ≡ Some true)
+    Rose before.faults after.faults × (after.attached ≡ before.attached) × HoldsStill before after
+NoImageCaused no_image.Unread before after =
+    Rose before.faults after.faults × (after.attached ≡ Some true) × (after.ended ≡ false)
 NoImageCaused (no_image.Refused fault) before after = after.attached ≡ Some true
-NoImageCaused no_image.Memory before after = Unit {0}
+NoImageCaused no_image.Memory before after = (after ≡ before) ⊎ (after.attached ≡ Some true)
 
 -- the cause of an answer on the image: it was read whole, or this is why there is none
 abbrev pub ImageCaused : Result ImageOf NoImage → SlotView → SlotView → Type 0
@@ -157,15 +195,20 @@ ImageCaused (Err why) before after = NoImageCaused why before after
 
 -- why there is no verdict, by the stream's slot, likewise
 abbrev pub NoVerdictCaused : NoVerdict → SlotView → SlotView → Type 0
-NoVerdictCaused no_verdict.Missing before after = after.attached ≡ Some false
+NoVerdictCaused no_verdict.Missing before after = (after.attached ≡ Some false) × HoldsStill before after
 NoVerdictCaused no_verdict.Unopened before after =
-    Rose before.faults after.faults × (after.attached ≡ before.attached) × (after.ended ≡ before.ended)
+    Rose before.faults after.faults × (after.attached ≡ before.attached) × HoldsStill before after
 NoVerdictCaused no_verdict.Unread before after = Rose before.faults after.faults × (after.attached ≡ Some true)
 NoVerdictCaused no_verdict.Memory before after = after.attached ≡ Some true
 
--- the cause of an answer on the stream: it was found, or this is why there is no verdict
+-- the cause of a verdict on the stream: it was found, and where the verdict tells that it ended, it had
+pub record VerdictCaused (v : Verdict) (after : SlotView) : Type 0 where
+  pub attached : after.attached ≡ Some true
+  pub ended : TellsTruncation v → after.ended ≡ true
+
+-- the cause of an answer on the stream: that of a verdict, or this is why there is none
 abbrev pub StreamCaused : Result Verdict NoVerdict → SlotView → SlotView → Type 0
-StreamCaused (Ok v) before after = after.attached ≡ Some true
+StreamCaused (Ok v) before after = VerdictCaused v after
 StreamCaused (Err why) before after = NoVerdictCaused why before after
 
 -- The cause of an outcome. One on the image leaves the stream's slot as it was, and one on the stream comes only after
@@ -175,7 +218,7 @@ Caused (outcome.Unloaded why) before after =
     NoImageCaused why before.image after.image × (after.stream ≡ before.stream)
 Caused (outcome.Unjudged why) before after =
     NoVerdictCaused why before.stream after.stream × IsReadWhole after.image
-Caused (outcome.Judged v) before after = (after.stream.attached ≡ Some true) × IsReadWhole after.image
+Caused (outcome.Judged v) before after = VerdictCaused v after.stream × IsReadWhole after.image
 
 -- no count of faults falls
 pub record CountsStand (before after : Slots) : Type 0 where

@@ -7,3 +7,6 @@ pub mod Words
 pub mod Intake
 pub mod Checks
 pub mod Answers
+pub mod TextWords
+pub mod TextRuns
+pub mod Programs

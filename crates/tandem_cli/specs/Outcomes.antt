@@ -1,8 +1,7 @@
 -- The lines of the outcomes that have no verdict. A line ends with one newline, and one space
 -- separates its parts.
-use Rattle.std.specs.Prelude.{ℕ, List, ◌++◌, ◌≤◌, codes, length, take, Option}
+use Rattle.std.specs.Prelude.{ℕ, List, ◌++◌, codes}
 use Rattle.std.specs.Fmt.{decimal}
-use Rattle.std.specs.Io.KnownBytes.{Appends}
 use Rattle.tandem_base.specs.Texts.{newline}
 use Rattle.tandem_cli.specs.declared.file_fault.FileFault.{FileFault}
 use Rattle.tandem_cli.specs.declared.file_fault.FileFault.TheVariants.{NotElf, Class, Kind, Machine, Headers}
@@ -38,9 +37,3 @@ image_line (Headers offset) = codes "IMAGE 5 Headers " ++ decimal offset ++ newl
 image_line (Segment index) = codes "IMAGE 6 Segment " ++ decimal index ++ newline
 image_line (Overlap first second) = codes "IMAGE 7 Overlap " ++ decimal first ++ codes " " ++ decimal second ++ newline
 image_line (TooLarge limit) = codes "IMAGE 8 TooLarge " ++ excess_text limit ++ newline
-
--- a sink took some first bytes of the text
-pub record TakesFront (old new : Option (List ℕ)) (text : List ℕ) : Type 0 where
-  pub put : ℕ
-  pub within : put ≤ length text
-  pub took : Appends old new (take put text)

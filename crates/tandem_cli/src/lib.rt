@@ -12,7 +12,12 @@ mod program;
 mod run;
 #[cfg(test)]
 mod tests;
+mod text_lines;
+mod text_outcome;
+mod text_words;
+mod texts;
 mod words;
 
 pub use program::run_program;
 pub use run::run_check;
+pub use texts::run_text;

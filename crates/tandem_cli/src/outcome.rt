@@ -4,8 +4,8 @@ ghost use Rattle.std.specs.Prelude.{◌≡◌, ◌≤◌, IfSome};
 ghost use Rattle.elf_image.specs.Faults.{Reads};
 ghost use Rattle.elf_image.specs.Images.{loaded_of};
 ghost use Rattle.tandem_cli.specs.Fits.{IsFit};
-ghost use Rattle.tandem_cli.specs.Checks.{Caused, CountsStand, ImageCaused, ImageIs, IsAccepted, OutcomeIs};
-ghost use Rattle.tandem_cli.specs.Checks.{StreamCaused, StreamIs};
+ghost use Rattle.tandem_cli.specs.Checks.{Caused, CountsStand, ImageCaused, ImageIs, ImageReads, IsAccepted};
+ghost use Rattle.tandem_cli.specs.Checks.{OutcomeIs, OutcomeReads, StreamCaused, StreamIs};
 ghost use Rattle.tandem_cli.specs.Checks.{image_read, meaning_of, no_image_of, stream_judged};
 ghost use Rattle.tandem_cli.specs.Seen.{asked_seen, chosen_seen};
 
@@ -63,6 +63,8 @@ pub fn check<I: Inputs>(alloc: Global, asked: &CheckWords, ins: &mut I) -> Outco
     requires { IsFit (chosen_seen asked.now.options) }
     ensures outcome { IfSome (I.names ins.old) (λ names.
         OutcomeIs (asked_seen asked.now) names result (I.slots ins.new).stream.left) }
+    ensures reads { IfSome (I.names ins.old) (λ names.
+        OutcomeReads (asked_seen asked.now) names result (I.slots ins.old).image (I.slots ins.new).image) }
     ensures cause { Caused result (I.slots ins.old) (I.slots ins.new) }
     ensures counts { CountsStand (I.slots ins.old) (I.slots ins.new) }
     ensures names { I.names ins.new ≡ I.names ins.old }
@@ -81,6 +83,8 @@ pub fn check<I: Inputs>(alloc: Global, asked: &CheckWords, ins: &mut I) -> Outco
 fn read_image<I: Inputs>(alloc: Global, asked: &CheckWords, ins: &mut I) -> Result<Image, NoImage>
     requires { IsFit (chosen_seen asked.now.options) }
     ensures image { IfSome (I.names ins.old) (λ names. ImageIs (asked_seen asked.now) names result) }
+    ensures reads { IfSome (I.names ins.old) (λ names.
+        ImageReads (asked_seen asked.now) names result (I.slots ins.old).image (I.slots ins.new).image) }
     ensures cause { ImageCaused result (I.slots ins.old).image (I.slots ins.new).image }
     ensures count { (I.slots ins.old).image.faults ≤ (I.slots ins.new).image.faults }
     ensures names { I.names ins.new ≡ I.names ins.old }

@@ -3,10 +3,11 @@
 ghost use Rattle.std.specs.Prelude.{◌≡◌, ◌+◌, ◌≤◌, ◌++◌, codes, length, OnErr, OnOk};
 ghost use Rattle.std.specs.Fmt.{decimal};
 ghost use Rattle.std.specs.Io.KnownBytes.{Appends};
-ghost use Rattle.tandem_cli.specs.Outcomes.{TakesFront, excess_text, failed_line, image_line, missing_line, usage_line};
+ghost use Rattle.tandem_cli.specs.Outcomes.{excess_text, failed_line, image_line, missing_line, usage_line};
 ghost use Rattle.tandem_base.specs.Texts.{newline};
 ghost use Rattle.tandem_io.specs.Causes.{HasCause};
 ghost use Rattle.tandem_base.specs.Puts.{Puts};
+ghost use Rattle.text_runs.specs.Written.{TakesFront};
 
 use super::file_fault::FileFault;
 use elf_image::TooLarge;
@@ -71,8 +72,8 @@ fn print_image_over<K: Sink>(fault: &FileFault, text: &mut [u8], out: &mut K) ->
     print_text(&text[..end], out)
 }
 
-// Writes the text, in one go.
-fn print_text<K: Sink>(text: &[u8], out: &mut K) -> Result<(), Failed>
+/// Writes the text, in one go. After an error the sink took a front of it.
+pub fn print_text<K: Sink>(text: &[u8], out: &mut K) -> Result<(), Failed>
     ensures ok { OnOk result (Appends (K.written out.old) (K.written out.new) text.now) }
     ensures err { OnErr result (TakesFront (K.written out.old) (K.written out.new) text.now) }
     ensures cause { HasCause (K.faults out.old) (K.faults out.new) result }

@@ -1,13 +1,15 @@
 //! The words that the program was started with, handed to the top call.
 
-ghost use Rattle.std.specs.Prelude.{◌≡◌, ◌≤◌, IfOk, IfErr, None, OnErr, drop, map};
+ghost use Rattle.std.specs.Prelude.{◌≡◌, ◌≤◌, IfOk, IfErr, OnErr, drop, map};
 ghost use Rattle.std.specs.IoError.{error_kind};
 ghost use Rattle.std.specs.String.{string_bytes};
 ghost use Rattle.std.specs.Vec.Iter.{into_iter_items};
-ghost use Rattle.tandem_cli.specs.Answers.{AnswersTo, AnswersUsage};
-ghost use Rattle.tandem_cli.specs.Words.{asked};
+ghost use Rattle.tandem_cli.specs.Answers.{AnswersUsage};
+ghost use Rattle.tandem_cli.specs.Checks.{CountsStand};
+ghost use Rattle.tandem_cli.specs.Programs.{AnswersWords, asks_nothing, names_text};
 
 use super::run::run_check;
+use super::texts::run_text;
 use std::alloc::{AllocError, Global};
 use std::env::Args;
 use std::io::{self, ErrorKind};
@@ -22,15 +24,16 @@ pub fn run_program<I: Inputs, K: Sink>(
     ins: &mut I,
     out: &mut K,
 ) -> u8
-    ensures words { IfOk started (λ args. AnswersTo (asked (map string_bytes (drop 1 (into_iter_items args))))
+    ensures words { IfOk started (λ args. AnswersWords (map string_bytes (drop 1 (into_iter_items args)))
         (I.names ins.old) (I.slots ins.old) (I.slots ins.new) result
         (K.written out.old) (K.written out.new) (K.faults out.old) (K.faults out.new)) }
     ensures no_text { OnErr started (AnswersUsage result
         (K.written out.old) (K.written out.new) (K.faults out.old) (K.faults out.new)) }
     ensures refused { IfErr started (λ error. error_kind error ≡ ErrorKind.OutOfMemory → result ≡ 7) }
-    ensures usage { IfOk started (λ args. asked (map string_bytes (drop 1 (into_iter_items args))) ≡ None →
-        ins.new ≡ ins.old) }
+    ensures usage { IfOk started (λ args. asks_nothing (names_text (map string_bytes (drop 1 (into_iter_items args))))
+        (map string_bytes (drop 1 (into_iter_items args))) → ins.new ≡ ins.old) }
     ensures untouched { OnErr started (ins.new ≡ ins.old) }
+    ensures counts { CountsStand (I.slots ins.old) (I.slots ins.new) }
     ensures names { I.names ins.new ≡ I.names ins.old }
     ensures count { K.faults out.old ≤ K.faults out.new }
 {
@@ -43,16 +46,46 @@ pub fn run_program<I: Inputs, K: Sink>(
 
 // The same, for words that are text.
 fn run_words<I: Inputs, K: Sink>(alloc: Global, args: Args, ins: &mut I, out: &mut K) -> u8
-    ensures words { AnswersTo (asked (map string_bytes (drop 1 (into_iter_items args))))
+    ensures words { AnswersWords (map string_bytes (drop 1 (into_iter_items args)))
         (I.names ins.old) (I.slots ins.old) (I.slots ins.new) result
         (K.written out.old) (K.written out.new) (K.faults out.old) (K.faults out.new) }
-    ensures usage { asked (map string_bytes (drop 1 (into_iter_items args))) ≡ None → ins.new ≡ ins.old }
+    ensures usage { asks_nothing (names_text (map string_bytes (drop 1 (into_iter_items args))))
+        (map string_bytes (drop 1 (into_iter_items args))) → ins.new ≡ ins.old }
+    ensures counts { CountsStand (I.slots ins.old) (I.slots ins.new) }
     ensures names { I.names ins.new ≡ I.names ins.old }
     ensures count { K.faults out.old ≤ K.faults out.new }
 {
     match words_behind(alloc, args) {
-        Ok(words) => run_check(alloc, &words, ins, out),
+        Ok(words) => run_command(alloc, &words, ins, out),
         Err(_refused) => 7,
+    }
+}
+
+// Does what the words ask for, by the command that the first of them names.
+fn run_command<I: Inputs, K: Sink>(alloc: Global, words: &[String], ins: &mut I, out: &mut K) -> u8
+    ensures words { AnswersWords (map string_bytes words.now)
+        (I.names ins.old) (I.slots ins.old) (I.slots ins.new) result
+        (K.written out.old) (K.written out.new) (K.faults out.old) (K.faults out.new) }
+    ensures usage { asks_nothing (names_text (map string_bytes words.now)) (map string_bytes words.now) →
+        ins.new ≡ ins.old }
+    ensures counts { CountsStand (I.slots ins.old) (I.slots ins.new) }
+    ensures names { I.names ins.new ≡ I.names ins.old }
+    ensures count { K.faults out.old ≤ K.faults out.new }
+{
+    if names_text(words) {
+        run_text(alloc, words, ins, out)
+    } else {
+        run_check(alloc, words, ins, out)
+    }
+}
+
+// Whether the first word is `text`.
+fn names_text(words: &[String]) -> bool
+    ensures { result ≡ names_text (map string_bytes words.now) }
+{
+    match words.first() {
+        Some(word) => word.as_str() == "text",
+        None => false,
     }
 }
 

@@ -6,8 +6,9 @@ ghost use Rattle.std.specs.String.{string_bytes};
 ghost use Rattle.tandem_io.specs.Causes.{HasCause};
 ghost use Rattle.tandem_cli.specs.Answers.{AnswersUsage, ChecksAs, NoFaultRose, PrintsDue, Settled};
 ghost use Rattle.tandem_cli.specs.Answers.{due_for, due_without_image, due_without_verdict, status_of_verdict};
-ghost use Rattle.tandem_cli.specs.Outcomes.{TakesFront};
-ghost use Rattle.verdict_report.specs.Lines.{line_of};
+ghost use Rattle.tandem_cli.specs.Checks.{CountsStand};
+ghost use Rattle.text_runs.specs.Written.{TakesFront};
+ghost use Rattle.verdict_report.specs.Lines.{verdict_line};
 ghost use Rattle.tandem_cli.specs.Seen.{asked_seen};
 ghost use Rattle.tandem_cli.specs.Words.{Asked, asked};
 
@@ -48,6 +49,7 @@ pub fn run_check<I: Inputs, K: Sink>(
         NoFaultRose (I.slots ins.old) (I.slots ins.new) (K.faults out.old) (K.faults out.new) →
         Settled a names (I.slots ins.new) result (K.written out.old) (K.written out.new)) }
 
+    ensures counts { CountsStand (I.slots ins.old) (I.slots ins.new) }
     ensures names { I.names ins.new ≡ I.names ins.old }
     ensures count { K.faults out.old ≤ K.faults out.new }
 {
@@ -62,6 +64,7 @@ fn answer_words<I: Inputs, K: Sink>(alloc: Global, words: &[String], ins: &mut I
     ensures answer { (a : Asked) → asked (map string_bytes words.now) ≡ Some a →
         ChecksAs a (I.names ins.old) (I.slots ins.old) (I.slots ins.new) result
         (K.written out.old) (K.written out.new) (K.faults out.old) (K.faults out.new) }
+    ensures counts { CountsStand (I.slots ins.old) (I.slots ins.new) }
     ensures names { I.names ins.new ≡ I.names ins.old }
     ensures count { K.faults out.old ≤ K.faults out.new }
 {
@@ -75,8 +78,8 @@ fn answer_words<I: Inputs, K: Sink>(alloc: Global, words: &[String], ins: &mut I
     }
 }
 
-// The status, or 6 where the line could not be written.
-fn finished(status: u8, written: Result<(), Failed>) -> u8
+/// The status, or 6 where the line could not be written.
+pub fn finished(status: u8, written: Result<(), Failed>) -> u8
     ensures ok { IfOk written (λ _. result ≡ status) }
     ensures err { IfErr written (λ _. result ≡ 6) }
 {
@@ -86,7 +89,8 @@ fn finished(status: u8, written: Result<(), Failed>) -> u8
     }
 }
 
-fn verdict_status(verdict: &Verdict) -> u8
+/// The status that goes with a verdict.
+pub fn verdict_status(verdict: &Verdict) -> u8
     ensures { result ≡ status_of_verdict verdict.now }
 {
     match verdict {
@@ -96,9 +100,10 @@ fn verdict_status(verdict: &Verdict) -> u8
     }
 }
 
-fn print_verdict<K: Sink>(verdict: &Verdict, out: &mut K) -> Result<(), Failed>
-    ensures ok { OnOk result (Appends (K.written out.old) (K.written out.new) (line_of verdict.now)) }
-    ensures err { OnErr result (TakesFront (K.written out.old) (K.written out.new) (line_of verdict.now)) }
+/// Writes the line of a verdict. After an error the sink took a front of it.
+pub fn print_verdict<K: Sink>(verdict: &Verdict, out: &mut K) -> Result<(), Failed>
+    ensures ok { OnOk result (Appends (K.written out.old) (K.written out.new) (verdict_line verdict.now)) }
+    ensures err { OnErr result (TakesFront (K.written out.old) (K.written out.new) (verdict_line verdict.now)) }
     ensures cause { HasCause (K.faults out.old) (K.faults out.new) result }
     ensures count { K.faults out.old ≤ K.faults out.new }
 {

@@ -19,6 +19,7 @@ returns-clause-cause g c =
     rw c.verdict_or_fault.ensures
     (stream_caused c.judge.result (g.I.Inputs.slots c.args.ins.now).stream (g.I.Inputs.slots c.judge.new.src).stream
     (beside.attached_is ∙ attached.attached ∙ ap (λ (b : Bool). Some b) c.in-Ok-true.field-0-test)
+    (rw after.ended_is c.judge.ensures.ended)
     (λ failed. rose_on (g.I.Inputs.slots c.args.ins.now).stream.faults
     (g.I.Inputs.slots c.attach.new.self).stream.faults
     (g.I.Inputs.slots c.judge.new.src).stream.faults attached.count

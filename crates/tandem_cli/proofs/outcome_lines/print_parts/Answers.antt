@@ -1,5 +1,5 @@
 use Rattle.std.proofs.Common.{◌++◌}
-use Rattle.tandem_cli.proofs.FrontLaws.{front_first, front_then, on_err, on_err_map}
+use Rattle.text_runs.proofs.Fronts.{front_first, front_then, on_err, on_err_map}
 use Rattle.tandem_cli.proofs.outcome_lines.print_parts.Goals as goal
 
 -- a front of the first two texts

@@ -1,4 +1,4 @@
-use Rattle.tandem_cli.proofs.FrontLaws.{front_first, front_then, on_err, on_err_map}
+use Rattle.text_runs.proofs.Fronts.{front_first, front_then, on_err, on_err_map}
 use Rattle.tandem_cli.proofs.outcome_lines.print_two.Goals as goal
 
 -- a front of the first text

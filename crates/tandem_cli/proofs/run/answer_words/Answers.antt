@@ -19,6 +19,7 @@ returns-in-Ok-Some-clause-answer g c =
     (record {
       outcome = c.check-outcome.result;
       is = c.check-outcome.ensures.outcome;
+      reads = c.check-outcome.ensures.reads;
       caused = c.check-outcome.ensures.cause;
       prints = c.report.ensures.prints;
     })
