@@ -9,7 +9,7 @@ use Rattle.tandem_base.specs.declared.names.Position.{Position}
 use Rattle.byte_memory.specs.declared.writer.Writer.{Writer}
 use Rattle.byte_memory.specs.Cells.{ByteStore, IsLatestStore, IsLatestWriter, IsLeft, Gains, is_before}
 use Rattle.byte_memory.specs.Cells.{is_foreign_before}
-use Rattle.byte_memory.specs.Memory.{Written, overwritten, other_than, foreign_writer}
+use Rattle.byte_memory.specs.Memory.{Written, overwritten, foreign_writer}
 use Rattle.tandem_base.specs.Places.{comes_before}
 use Rattle.byte_memory.proofs.Positions.{never_itself, not_before, before_past}
 
@@ -119,6 +119,6 @@ module _ (place later : Position) (stores grown : List ByteStore) (new : ByteSto
   left_grows was l = (newest, at was l)
     where
       at : (was : Option Written) → IsLeft place stores was
-          → IsLatestWriter (is_foreign_before later new.writer.hart) grown (other_than new.writer was)
+          → IsLatestWriter (is_foreign_before later new.writer.hart) grown (foreign_writer new.writer.hart was)
       at None l = (None, refl, others None (λ s i. absurd (both_ways _ (l s i) (all s i))))
       at (Some w) l = let f = left_foreign place stores (Some w) new.writer.hart l in (f.0, f.1, others f.0 f.2)

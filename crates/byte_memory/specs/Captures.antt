@@ -43,10 +43,6 @@ pub record Sees (memory : Memory) (image : Loaded) (extent : Extent) (capture : 
   pub value : (k : ℕ) → k < 8 → slice_index capture.values k ≡ (captured memory image extent k).value
   pub last : (k : ℕ) → k < 8 → slice_index_or capture.last k None ≡ (captured memory image extent k).last
 
--- the sizes that a block may have; 0 is no block
-abbrev pub IsBlock : ℕ → Type 0
-IsBlock block = (block ≡ 0) ⊎ (block ≡ 8) ⊎ (block ≡ 16) ⊎ (block ≡ 32) ⊎ (block ≡ 64)
-
 -- where the aligned block of this size that holds addr begins
 abbrev pub block_base : ℕ → ℕ → ℕ
 block_base addr block = addr - addr % block

@@ -1,9 +1,9 @@
 -- What memory keeps of each byte that was stored to.
 use Rattle.std.specs.Prelude.{ℕ, ◌≡◌, ◌+◌, ◌-◌, ◌/◌, ◌%◌, nat_le, nat_lt, ◌&&◌, List, ◌==◌, Bool, Option, None}
-use Rattle.std.specs.Prelude.{Some, is_some, unwrap_or, nat_eq, length, slice_index, slice_index_or}
+use Rattle.std.specs.Prelude.{Some, is_some, nat_eq, length, slice_index, slice_index_or}
 use Rattle.std.specs.Prelude.{if◌then◌else◌}
 use Rattle.msg_frames.specs.declared.message.Piece.{Piece}
-use Rattle.elf_image.specs.Images.{Loaded}
+use Rattle.elf_image.specs.Images.{Loaded, initial_byte}
 use Rattle.tandem_base.specs.Extents.{is_among}
 use Rattle.byte_memory.specs.declared.writer.Cell.{Cell}
 use Rattle.byte_memory.specs.declared.writer.Writer.{Writer}
@@ -18,14 +18,15 @@ pub record Written : Type 0 where
   pub last : Writer
   pub other : Option Writer
 
--- the last writer of another hart than that of the new one
-abbrev pub other_than : Writer → Option Written → Option Writer
-other_than writer None = None
-other_than writer (Some was) = if was.last.hart == writer.hart then was.other else Some was.last
+-- the last writer of a byte that is of another hart than this one
+abbrev pub foreign_writer : ℕ → Option Written → Option Writer
+foreign_writer hart None = None
+foreign_writer hart (Some was) = if was.last.hart == hart then was.other else Some was.last
 
 -- a byte after one more store to it
 abbrev pub overwritten : Option Written → Writer → ℕ → Written
-overwritten was writer value = record { value = value; last = writer; other = other_than writer was }
+overwritten was writer value =
+    record { value = value; last = writer; other = foreign_writer writer.hart was }
 
 -- what is kept of the byte at x after a store of the bytes of a piece from byte `first` up to byte `past`
 abbrev pub after_part : Piece → ℕ → ℕ → Writer → ℕ → Option Written → Option Written
@@ -68,10 +69,6 @@ abbrev pub cell_over : ℕ → Option Written → Cell
 cell_over initial None = record { value = initial; last = None; other = None }
 cell_over initial (Some was) = record { value = was.value; last = Some was.last; other = was.other }
 
--- the initial value of the byte at x: 0 where the image has none
-abbrev pub initial_byte : Loaded → ℕ → ℕ
-initial_byte image x = unwrap_or (image.byte_at x) 0
-
 -- the cell of the byte at x
 abbrev pub cell_at : Memory → Loaded → ℕ → Cell
 cell_at memory image x = cell_over (initial_byte image x) (written_at memory x)
@@ -80,11 +77,6 @@ cell_at memory image x = cell_over (initial_byte image x) (written_at memory x)
 abbrev pub value_over : ℕ → Option Writer → ℕ → ℕ
 value_over initial None value = initial
 value_over initial (Some last) value = value
-
--- the last writer of a byte that is of another hart than this one
-abbrev pub foreign_writer : ℕ → Option Written → Option Writer
-foreign_writer hart None = None
-foreign_writer hart (Some was) = if was.last.hart == hart then was.other else Some was.last
 
 -- the last writer of another hart than the last one's
 abbrev pub other_writer : Option Written → Option Writer

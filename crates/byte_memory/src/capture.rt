@@ -1,7 +1,8 @@
 //! What a report saw of memory.
 
 ghost use Rattle.std.specs.Prelude.{◌≡◌, ◌+◌, ◌^◌, ◌<◌, ◌≤◌, ℕ, None, slice_index_or};
-ghost use Rattle.byte_memory.specs.Captures.{IsBlock, FindsForeign, block_base, capture_base, capture_size};
+ghost use Rattle.tandem_base.specs.Granules.{IsGranule};
+ghost use Rattle.byte_memory.specs.Captures.{FindsForeign, block_base, capture_base, capture_size};
 ghost use Rattle.byte_memory.specs.Captures.{later_of, other_from};
 
 use crate::memory::Memory;
@@ -102,7 +103,8 @@ impl Capture {
 impl StoreCapture {
     ghost use Rattle.std.specs.Prelude.{◌≡◌, ◌<◌, ℕ, None, slice_index_or};
     ghost use Rattle.elf_image.specs.Images.{loaded_of};
-    ghost use Rattle.byte_memory.specs.Captures.{Sees, IsBlock, FindsForeign, block_base, captured};
+    ghost use Rattle.tandem_base.specs.Granules.{IsGranule};
+    ghost use Rattle.byte_memory.specs.Captures.{Sees, FindsForeign, block_base, captured};
 
     /// What memory, over the initial bytes of an image, holds of an extent, seen at a place by a
     /// hart, with the latest store by another hart to the aligned block of this many bytes.
@@ -114,7 +116,7 @@ impl StoreCapture {
         hart: u8,
         block: u8,
     ) -> StoreCapture
-        requires { IsBlock block }
+        requires { IsGranule block }
         ensures place { result.seen.place ≡ place }
         ensures seen { Sees memory.now (loaded_of image.now) extent.now result.seen }
         ensures other { (k : ℕ) → k < 8 → slice_index_or result.other k None
@@ -149,7 +151,7 @@ fn others(memory: &Memory, extent: &Extent) -> [Option<Writer>; 8]
 
 /// The latest store by another hart to the block of an address, None where the block is empty.
 fn latest_foreign(memory: &Memory, addr: u64, hart: u8, block: u8) -> Option<Foreign>
-    requires { IsBlock block }
+    requires { IsGranule block }
     ensures { FindsForeign memory.now hart (block_base addr block) block result }
 {
     if block == 0 {
@@ -167,7 +169,7 @@ fn latest_foreign(memory: &Memory, addr: u64, hart: u8, block: u8) -> Option<For
 /// Where the block of an address begins.
 fn base_of(addr: u64, block: u8) -> u64
     requires some { 0 < block }
-    requires size { IsBlock block }
+    requires size { IsGranule block }
     ensures value { result ≡ block_base addr block }
     ensures room { result + block ≤ 2 ^ 64 }
 {

@@ -2,7 +2,8 @@
 
 ghost use Rattle.std.specs.Prelude.{◌≡◌, ◌+◌, ◌%◌, ◌<◌, ℕ, None, slice_index, slice_index_or};
 ghost use Rattle.elf_image.specs.Images.{loaded_of};
-ghost use Rattle.byte_memory.specs.Memory.{initial_byte, value_over};
+ghost use Rattle.byte_memory.specs.Memory.{value_over};
+ghost use Rattle.elf_image.specs.Images.{initial_byte};
 
 use crate::line::Line;
 use crate::writer::{Cell, Writer};

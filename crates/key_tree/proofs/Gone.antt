@@ -3,8 +3,8 @@ use Rattle.std.proofs.Common.{ℕ, ◌≡◌, ◌≢◌, ◌^◌, ◌%◌, inl, 
 use Rattle.std.proofs.Common.{◌∙◌, subst}
 use Rattle.std.proofs.lemmas.Bool.{cases_eq}
 use Rattle.key_tree.specs.declared.node.Node.{Node}
-use Rattle.key_tree.specs.Trees.{with_entry, Agree, IsSound, IsLeafBelow, AllBut}
-use Rattle.key_tree.specs.Entries.{number_of, entries_of, taken}
+use Rattle.key_tree.specs.Trees.{node_with_entry, Agree, IsSound, IsLeafBelow, AllBut}
+use Rattle.key_tree.specs.Entries.{number_of, entries_of, with_key_taken}
 use Rattle.key_tree.proofs.Growth.{tree_rekeyed, apart_rekeyed}
 use Rattle.key_tree.proofs.Numbers.{at_of, taken_numbers}
 
@@ -27,7 +27,7 @@ module _ (xs mid : List (Option Node)) (root top : Option ℕ) (i j key : ℕ) (
     at_j : at_of xs j ≡ Some n
     at_j = subst (λ (x : ℕ). at_of xs x ≡ Some n) (sym same) there
 
-    pub leaf_gone : (q : ℕ) → number_of (entries_of mid) q ≡ taken key (entries_of xs) q
+    pub leaf_gone : (q : ℕ) → number_of (entries_of mid) q ≡ with_key_taken key (entries_of xs) q
     leaf_gone = taken_numbers xs mid sound.apart after.apart key
         (λ k x e d. (
         let away : k ≢ j = λ s. d (ap (λ (y : Node). y.key)
@@ -44,12 +44,12 @@ module _ (xs mid : List (Option Node)) (root top : Option ℕ) (i j key : ℕ) (
 
   -- the node gets the leaf's key
   module _ (ys : List (Option Node)) (differ : j ≢ i)
-      (set : (y : Node) → at_of mid i ≡ Some y → at_of ys i ≡ Some (with_entry m.key m.number y))
+      (set : (y : Node) → at_of mid i ≡ Some y → at_of ys i ≡ Some (node_with_entry m.key m.number y))
       (others : (k : ℕ) → k ≢ i → at_of ys k ≡ at_of mid k) where
     record Held : Type 0 where
       y : Node
       mid_i : at_of mid i ≡ Some y
-      now : at_of ys i ≡ Some (with_entry m.key m.number y)
+      now : at_of ys i ≡ Some (node_with_entry m.key m.number y)
       bits : Agree y.depth m.key y.key
 
     held : Held
@@ -79,14 +79,14 @@ module _ (xs mid : List (Option Node)) (root top : Option ℕ) (i j key : ℕ) (
           (sound.tree.fits j m taken_node) held.now others after.apart absent;
     }
 
-    pub moved_gone : (q : ℕ) → number_of (entries_of ys) q ≡ taken key (entries_of xs) q
+    pub moved_gone : (q : ℕ) → number_of (entries_of ys) q ≡ with_key_taken key (entries_of xs) q
     moved_gone = taken_numbers xs ys sound.apart moved_sound.apart key
         (λ k x e d. elim (cases_eq k j) [
           | inl s ↦
               let node : m ≡ x = same_node (at_of xs) j m x taken_node (subst (λ (y : ℕ). at_of xs y ≡ Some x) s e) in
               record {
                 i = i;
-                n = with_entry m.key m.number held.y;
+                n = node_with_entry m.key m.number held.y;
                 there = held.now;
                 key_is = ap (λ (y : Node). y.key) node;
                 number_is = ap (λ (y : Node). y.number) node;
@@ -99,8 +99,8 @@ module _ (xs mid : List (Option Node)) (root top : Option ℕ) (i j key : ℕ) (
         ])
         (λ k x e d. elim (cases_eq k i) [
           | inl s ↦
-              let node : with_entry m.key m.number held.y ≡ x = same_node (at_of ys) i
-              (with_entry m.key m.number held.y) x held.now (subst (λ (y : ℕ). at_of ys y ≡ Some x) s e) in
+              let node : node_with_entry m.key m.number held.y ≡ x = same_node (at_of ys) i
+              (node_with_entry m.key m.number held.y) x held.now (subst (λ (y : ℕ). at_of ys y ≡ Some x) s e) in
               record { i = j; n = m; there = taken_node; key_is = ap (λ (y : Node). y.key) node }
           | inr g ↦
               let o = but.only k x (sym (others k g) ∙ e) in
@@ -108,8 +108,8 @@ module _ (xs mid : List (Option Node)) (root top : Option ℕ) (i j key : ℕ) (
         ])
         (λ k x e s. elim (cases_eq k i) [
           | inl t ↦
-              let node : with_entry m.key m.number held.y ≡ x = same_node (at_of ys) i
-              (with_entry m.key m.number held.y) x held.now (subst (λ (y : ℕ). at_of ys y ≡ Some x) t e) in
+              let node : node_with_entry m.key m.number held.y ≡ x = same_node (at_of ys) i
+              (node_with_entry m.key m.number held.y) x held.now (subst (λ (y : ℕ). at_of ys y ≡ Some x) t e) in
               differ (sound.apart j i m n taken_node there (ap (λ (y : Node). y.key) node ∙ s ∙ sym is))
           | inr g ↦
               let o = but.only k x (sym (others k g) ∙ e) in

@@ -3,7 +3,7 @@ use Rattle.std.proofs.Common.{ℕ, ◌≡◌, ◌+◌, ◌-◌, ◌^◌, ◌%◌
 use Rattle.std.proofs.Common.{Bool, true, false, Option, None, Some, refl, sym, ap, ◌∙◌}
 use Rattle.std.proofs.Common.{subst, arith}
 use Rattle.key_tree.specs.declared.node.Node.{Node}
-use Rattle.key_tree.specs.Trees.{child, Agree, AreTree, IsLeafBelow, first_of}
+use Rattle.key_tree.specs.Trees.{child, Agree, AreTree, IsLeafBelow, first_child}
 use Rattle.key_tree.proofs.Ways.{agree_less, agree_all}
 
 -- the node at i, this deep, is the one at `from` or stands below it
@@ -57,14 +57,14 @@ module _ (at : ℕ → Option Node) (from i depth : ℕ) (t : AreTree at) (b : B
       cases : (d : ℕ) → (d < 64) ⊎ (64 ≤ d)
       cases d = grind arith
 
-side_of : (n : Node) (c : ℕ) → first_of n ≡ Some c → (r : Bool) × (child r n ≡ Some c)
+side_of : (n : Node) (c : ℕ) → first_child n ≡ Some c → (r : Bool) × (child r n ≡ Some c)
 side_of n c e = by n.left refl
   where
     by : (o : Option ℕ) → n.left ≡ o → (r : Bool) × (child r n ≡ Some c)
     by None q = (true, sym (ap (λ (x : Option ℕ). elim x [ Some i ↦ Some i | None ↦ n.right ]) q) ∙ e)
     by (Some i) q = (false, q ∙ sym (ap (λ (x : Option ℕ). elim x [ Some i ↦ Some i | None ↦ n.right ]) q) ∙ e)
 
-none_left : (n : Node) → first_of n ≡ None → (n.left ≡ None) × (n.right ≡ None)
+none_left : (n : Node) → first_child n ≡ None → (n.left ≡ None) × (n.right ≡ None)
 none_left n e = by n.left refl
   where
     by : (o : Option ℕ) → n.left ≡ o → (n.left ≡ None) × (n.right ≡ None)
@@ -76,19 +76,19 @@ none_left n e = by n.left refl
 -- the same of the node as it was looked up
 module _ (at : ℕ → Option Node) (from i depth : ℕ) (t : AreTree at) (b : Below at from i depth) (n : Node)
     (there : at i ≡ Some n) where
-  pub leaf_next : (c : ℕ) → first_of n ≡ Some c → Below at from c (depth + 1)
+  pub leaf_next : (c : ℕ) → first_child n ≡ Some c → Below at from c (depth + 1)
   leaf_next c e =
       let s = side_of n c e in
       goes_down at from i depth t b s.0 c
       (ap (λ (x : Node). child s.0 x) (same_node at i b.node n b.there there) ∙ s.1)
 
-  pub leaf_room : (c : ℕ) → first_of n ≡ Some c → depth < 64
+  pub leaf_room : (c : ℕ) → first_child n ≡ Some c → depth < 64
   leaf_room c e =
       let s = side_of n c e in
       has_child at from i depth t b s.0 c
       (ap (λ (x : Node). child s.0 x) (same_node at i b.node n b.there there) ∙ s.1)
 
-  pub leaf_found : first_of n ≡ None → IsLeafBelow at from i
+  pub leaf_found : first_child n ≡ None → IsLeafBelow at from i
   leaf_found e =
       let s = none_left n e in
       record {

@@ -7,7 +7,7 @@ use Rattle.std.proofs.lemmas.Bool.Decides.{nat_tests}
 use Rattle.std.proofs.lemmas.List.Sums.{sum_by-cons}
 use Rattle.key_tree.specs.declared.node.Node.{Node}
 use Rattle.key_tree.specs.Trees.{AreApart}
-use Rattle.key_tree.specs.Entries.{number_of, entries_of, AreDistinct, put, taken}
+use Rattle.key_tree.specs.Entries.{number_of, entries_of, AreDistinct, put, with_key_taken}
 
 abbrev pub at_of : List (Option Node) → ℕ → Option Node
 at_of xs i = get_or xs i None
@@ -136,9 +136,9 @@ module _ (old new : List (Option Node)) (apart_old : AreApart (at_of old)) (apar
   ]
 
   pub taken_numbers : ((j : ℕ) (m : Node) → at_of new j ≡ Some m → m.key ≢ key)
-      → (q : ℕ) → number_of (entries_of new) q ≡ taken key (entries_of old) q
+      → (q : ℕ) → number_of (entries_of new) q ≡ with_key_taken key (entries_of old) q
   taken_numbers absent q = elim (cases_eq q key) [
-    | inl s ↦ subst (λ (k : ℕ). number_of (entries_of new) k ≡ taken key (entries_of old) k) (sym s)
+    | inl s ↦ subst (λ (k : ℕ). number_of (entries_of new) k ≡ with_key_taken key (entries_of old) k) (sym s)
         (number_absent new key absent
         ∙ ap (λ (b : Bool). if b then None else number_of (entries_of old) key) (sym (same key)))
     | inr d ↦ others_same q d

@@ -3,7 +3,7 @@ use Rattle.std.proofs.Common.{ℕ, ◌≡◌, ◌≢◌, ◌+◌, ◌^◌, ◌%�
 use Rattle.std.proofs.Common.{None, Some, is_some, if◌then◌else◌, refl, sym, ap, ◌∙◌, subst, arith}
 use Rattle.std.proofs.lemmas.Bool.{cases_eq}
 use Rattle.key_tree.specs.declared.node.Node.{Node}
-use Rattle.key_tree.specs.Trees.{side, child, with_child, with_entry, hung_from, planted, IsSound, WayEnds}
+use Rattle.key_tree.specs.Trees.{side, child, with_child, node_with_entry, hung_from, planted, IsSound, WayEnds}
 use Rattle.key_tree.specs.Entries.{number_of, entries_of, put}
 use Rattle.key_tree.proofs.Growth.{tree_planted, apart_planted, none_yet, tree_rekeyed}
 use Rattle.key_tree.proofs.Growth.{apart_rekeyed, tree_hung, apart_hung}
@@ -53,7 +53,7 @@ module _ (xs ys : List (Option Node)) (root : Option ℕ) (f key number : ℕ) (
 -- in place of another
 module _ (xs ys : List (Option Node)) (root : Option ℕ) (i key number : ℕ) (n : Node)
     (sound : IsSound (at_of xs) root) (there : at_of xs i ≡ Some n) (is : n.key ≡ key)
-    (now : at_of ys i ≡ Some (with_entry key number n))
+    (now : at_of ys i ≡ Some (node_with_entry key number n))
     (others : (k : ℕ) → k ≢ i → at_of ys k ≡ at_of xs k) (fit : key < 2 ^ 64) where
   pub set_sound : IsSound (at_of ys) root
   set_sound = record {
@@ -71,10 +71,10 @@ module _ (xs ys : List (Option Node)) (root : Option ℕ) (i key number : ℕ) (
       (subst (λ (x : ℕ). at_of xs x ≡ Some m) s e) there) ∙ is) in
       record { i = k; n = m; there = others k g ∙ e; key_is = refl; number_is = refl }))
       (λ k m e d. (
-      let g : k ≢ i = λ s. d (ap (λ (x : Node). x.key) (same_node (at_of ys) i m (with_entry key number n)
+      let g : k ≢ i = λ s. d (ap (λ (x : Node). x.key) (same_node (at_of ys) i m (node_with_entry key number n)
       (subst (λ (x : ℕ). at_of ys x ≡ Some m) s e) now)) in
       record { i = k; n = m; there = sym (others k g) ∙ e; key_is = refl }))
-      number (record { i = i; n = with_entry key number n; there = now; key_is = refl; number_is = refl })
+      number (record { i = i; n = node_with_entry key number n; there = now; key_is = refl; number_is = refl })
 
   pub set_there : number_of (entries_of xs) key ≡ Some n.number
   set_there = number_is xs sound.apart key n.number

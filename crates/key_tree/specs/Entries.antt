@@ -3,7 +3,7 @@ use Rattle.std.specs.Prelude.{ℕ, ◌≡◌, ◌==◌, List, [], ◌∷◌, Opt
 use Rattle.key_tree.specs.declared.node.Node.{Node}
 
 -- the keys with their numbers, in no order, and how many keys there may be
-pub record Table : Type 0 where
+pub record KeyedEntries : Type 0 where
   pub entries : List (ℕ × ℕ)
   pub capacity : ℕ
 
@@ -18,7 +18,7 @@ AreDistinct [] = Unit {0}
 AreDistinct (e ∷ es) = (number_of es e.0 ≡ None) × AreDistinct es
 
 -- the number under a key of the table
-abbrev pub number_at : Table → ℕ → Option ℕ
+abbrev pub number_at : KeyedEntries → ℕ → Option ℕ
 number_at table key = number_of table.entries key
 
 -- what is there after a number was put under a key
@@ -26,8 +26,8 @@ abbrev pub put : ℕ → ℕ → List (ℕ × ℕ) → ℕ → Option ℕ
 put key number entries q = if q == key then Some number else number_of entries q
 
 -- what is there after a key was taken away
-abbrev pub taken : ℕ → List (ℕ × ℕ) → ℕ → Option ℕ
-taken key entries q = if q == key then None else number_of entries q
+abbrev pub with_key_taken : ℕ → List (ℕ × ℕ) → ℕ → Option ℕ
+with_key_taken key entries q = if q == key then None else number_of entries q
 
 -- the keys and numbers of the nodes
 abbrev pub entries_of : List (Option Node) → List (ℕ × ℕ)

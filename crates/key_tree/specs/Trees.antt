@@ -90,12 +90,12 @@ pub record IsLeafBelow (at : ℕ → Option Node) (from i : ℕ) : Type 0 where
   pub bits : (n : Node) → at from ≡ Some n → Agree n.depth node.key n.key
 
 -- a child of the node: the left one, else the right one
-abbrev pub first_of : Node → Option ℕ
-first_of n = elim n.left [ Some i ↦ Some i | None ↦ n.right ]
+abbrev pub first_child : Node → Option ℕ
+first_child n = elim n.left [ Some i ↦ Some i | None ↦ n.right ]
 
 -- the node with this key and number
-abbrev pub with_entry : ℕ → ℕ → Node → Node
-with_entry key number n = record n { key = key; number = number }
+abbrev pub node_with_entry : ℕ → ℕ → Node → Node
+node_with_entry key number n = record n { key = key; number = number }
 
 -- a node without children, with this key and number, below the node n at i
 abbrev pub hung_from : ℕ → Node → ℕ → ℕ → Node

@@ -5,9 +5,9 @@ ghost use Rattle.std.specs.Prelude.{◌≤◌, is_some, IfSome, IfNone, if◌the
 ghost use Rattle.slab.specs.Slab.{get, Updates, HasRoomFor, slab_len};
 ghost use Rattle.key_tree.specs.declared.node.Node.{Node};
 ghost use Rattle.key_tree.specs.Trees.{side, child, with_child, IsTree, AreApart};
-ghost use Rattle.key_tree.specs.Trees.{AreTree, WayEnds, IsLeafBelow, first_of};
-ghost use Rattle.key_tree.specs.Trees.{with_entry, hung_from, planted, IsSound, AllBut};
-ghost use Rattle.key_tree.specs.Entries.{number_of, entries_of, put as after_put, taken as after_take};
+ghost use Rattle.key_tree.specs.Trees.{AreTree, WayEnds, IsLeafBelow, first_child};
+ghost use Rattle.key_tree.specs.Trees.{node_with_entry, hung_from, planted, IsSound, AllBut};
+ghost use Rattle.key_tree.specs.Entries.{number_of, entries_of, put as after_put, with_key_taken as after_take};
 
 use crate::node::{Node, is_right};
 use slab::Slab;
@@ -67,7 +67,7 @@ pub fn leaf_below(nodes: &Slab<Node>, from: usize) -> usize
 
 /// A child of a node, if it has one.
 fn first_child(node: &Node) -> Option<usize>
-    ensures { result ≡ first_of node.now }
+    ensures { result ≡ first_child node.now }
 {
     match node.left {
         Some(left) => Some(left),
@@ -92,7 +92,7 @@ pub fn set_child(nodes: &mut Slab<Node>, at: usize, right: bool, to: Option<usiz
 /// Gives a node another key with its number.
 pub fn set_entry(nodes: &mut Slab<Node>, at: usize, key: u64, number: usize)
     requires { IsSome (get nodes.old at) }
-    ensures there { (n : Node) → get nodes.old at ≡ Some n → get nodes.new at ≡ Some (with_entry key number n) }
+    ensures there { (n : Node) → get nodes.old at ≡ Some n → get nodes.new at ≡ Some (node_with_entry key number n) }
     ensures others { (i : ℕ) → i ≢ at → get nodes.new i ≡ get nodes.old i }
     ensures len { slab_len nodes.new ≡ slab_len nodes.old }
     ensures capacity { nodes.new.capacity ≡ nodes.old.capacity }

@@ -20,10 +20,10 @@ pub struct KeyTree {
 impl Model for KeyTree {
     ghost use Rattle.std.specs.Prelude.{◌≡◌, ◌≤◌};
     ghost use Rattle.slab.specs.Slab.{get, slab_len};
-    ghost use Rattle.key_tree.specs.Entries.{Table, entries_of};
+    ghost use Rattle.key_tree.specs.Entries.{KeyedEntries, entries_of};
     ghost use Rattle.key_tree.specs.Trees.{IsSound};
 
-    ghost Value = { Table };
+    ghost Value = { KeyedEntries };
 
     ghost view = { λ t. record { entries = entries_of t.nodes.slots; capacity = t.capacity } };
 
@@ -33,7 +33,7 @@ impl Model for KeyTree {
 
 impl KeyTree {
     ghost use Rattle.std.specs.Prelude.{◌≡◌, ◌+◌, ◌<◌, ◌≤◌, ℕ, [], length, IfOk, is_some, if◌then◌else◌};
-    ghost use Rattle.key_tree.specs.Entries.{number_at, number_of, put, taken, AreDistinct};
+    ghost use Rattle.key_tree.specs.Entries.{number_at, number_of, put, with_key_taken, AreDistinct};
 
     /// No numbers, with room for `capacity` keys.
     pub fn new(alloc: Global, capacity: u32) -> Result<KeyTree, AllocError>
@@ -74,7 +74,7 @@ impl KeyTree {
     /// Takes a key away, and answers the number that was under it.
     pub fn take(&mut self, key: u64) -> Option<usize>
         ensures taken { result ≡ number_at self.old key }
-        ensures numbers { (q : ℕ) → number_at self.new q ≡ taken key self.old.entries q }
+        ensures numbers { (q : ℕ) → number_at self.new q ≡ with_key_taken key self.old.entries q }
         ensures capacity { self.new.capacity ≡ self.old.capacity }
     {
         nodes::take(&mut self.nodes, &mut self.root, key)

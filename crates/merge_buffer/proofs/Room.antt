@@ -5,7 +5,7 @@ use Rattle.std.proofs.Common.{if◌then◌else◌}
 use Rattle.std.proofs.lemmas.List.{get_or-set_other, get_or_past}
 use Rattle.std.proofs.lemmas.List.Sums.{sum_by-set}
 use Rattle.slab.specs.Slab.{Slab, get}
-use Rattle.key_tree.specs.Entries.{Table, number_at, number_of, AreDistinct}
+use Rattle.key_tree.specs.Entries.{KeyedEntries, number_at, number_of, AreDistinct}
 use Rattle.merge_buffer.specs.declared.waiting.Part.{Part}
 use Rattle.merge_buffer.specs.declared.waiting.Waiting.{Waiting}
 use Rattle.merge_buffer.specs.Parts.{line_of, AllBelow, Falls, AllOn}
@@ -64,7 +64,7 @@ lines_fit (e ∷ es) slots d leads =
           line_is = l.line_is;
         }
 
-pub newest_leads : (waiting : Slab Waiting) (newest : Table) → AreChained waiting newest
+pub newest_leads : (waiting : Slab Waiting) (newest : KeyedEntries) → AreChained waiting newest
     → (line i : ℕ) → number_at newest line ≡ Some i → Leads waiting.slots line i
 newest_leads waiting newest s line i n =
     let c = s.chains line in

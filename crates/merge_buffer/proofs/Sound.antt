@@ -3,7 +3,7 @@ use Rattle.std.proofs.Common.{ℕ, zero, suc, ◌≡◌, ◌≢◌, ◌+◌, ◌
 use Rattle.std.proofs.Common.{◌∷◌, length, Option, None, Some, refl, sym, ap, ◌∙◌, subst, arith, if◌then◌else◌}
 use Rattle.std.proofs.lemmas.Bool.{cases_eq}
 use Rattle.slab.specs.Slab.{Slab, get, slab_len}
-use Rattle.key_tree.specs.Entries.{Table, number_at, number_of, put, taken}
+use Rattle.key_tree.specs.Entries.{KeyedEntries, number_at, number_of, put, with_key_taken}
 use Rattle.merge_buffer.specs.declared.waiting.Part.{Part}
 use Rattle.merge_buffer.specs.declared.waiting.Waiting.{Waiting}
 use Rattle.merge_buffer.specs.Parts.{line_of, AllBelow, IsWithinLine}
@@ -31,7 +31,7 @@ parts_are n waiting head line c l =
     chain_of_is (get waiting) n head c.parts c.chain (omega (arith, fits))
 
 -- one more
-module _ (n : ℕ) (old new : Slab Waiting) (lines heads : Table) (p : Part) (f : ℕ)
+module _ (n : ℕ) (old new : Slab Waiting) (lines heads : KeyedEntries) (p : Part) (f : ℕ)
     (s : AreChained old lines) (vacant : get old f ≡ None)
     (there : get new f ≡ Some (record { part = p; before = number_at lines (line_of p) }))
     (others : (i : ℕ) → i ≢ f → get new i ≡ get old i) (len : slab_len new ≡ slab_len old + 1)
@@ -113,10 +113,10 @@ module _ (n : ℕ) (old new : Slab Waiting) (lines heads : Table) (p : Part) (f 
   ]
 
 -- those of a line go
-module _ (n : ℕ) (old new : Slab Waiting) (lines heads : Table) (line : ℕ) (s : AreChained old lines)
+module _ (n : ℕ) (old new : Slab Waiting) (lines heads : KeyedEntries) (line : ℕ) (s : AreChained old lines)
     (len : slab_len new ≤ slab_len old) (room : slab_len old ≤ n)
     (keep : (i : ℕ) (w : Waiting) → get old i ≡ Some w → line_of w.part ≢ line → get new i ≡ Some w)
-    (numbers : (q : ℕ) → number_at heads q ≡ taken line lines.entries q) where
+    (numbers : (q : ℕ) → number_at heads q ≡ with_key_taken line lines.entries q) where
   head_gone : number_at heads line ≡ None
   head_gone = numbers line
       ∙ ap (λ (b : Bool). if b then None else number_of lines.entries line) (same_line line)

@@ -9,7 +9,7 @@ use Rattle.merge_buffer.specs.declared.lines.Took.TheVariants.{Yes, Full}
 use Rattle.merge_buffer.specs.declared.lines.Drain.{Drain}
 use Rattle.merge_buffer.specs.declared.lines.Drain.TheVariants.{Parts, Mismatch}
 use Rattle.merge_buffer.specs.Chains.{chain_of}
-use Rattle.merge_buffer.specs.Parts.{with_part}
+use Rattle.merge_buffer.specs.Parts.{parts_with}
 
 -- the lines on which Inserts wait, by their numbers, each with its Inserts, the newest first; how many wait; those
 -- that the last Write drained, the newest first; and how many may wait
@@ -39,7 +39,7 @@ took buffer = if buffer.count == buffer.capacity then Full buffer.capacity else 
 
 -- what waits on a line after the answer to one more Insert
 abbrev pub after_insert : Took → Part → ℕ → List Part → List Part
-after_insert Yes p line ps = with_part p line ps
+after_insert Yes p line ps = parts_with p line ps
 after_insert (Full n) p line ps = ps
 
 -- how many wait after it

@@ -2,7 +2,7 @@
 use Rattle.std.specs.Prelude.{ℕ, zero, suc, ◌≡◌, ◌≢◌, ◌+◌, ◌<◌, ◌==◌, List}
 use Rattle.std.specs.Prelude.{[], ◌∷◌, Option, None, Some, slice_index, if◌then◌else◌}
 use Rattle.slab.specs.Slab.{Slab, get}
-use Rattle.key_tree.specs.Entries.{Table, number_at}
+use Rattle.key_tree.specs.Entries.{KeyedEntries, number_at}
 use Rattle.std.specs.Int.{bit_at}
 use Rattle.merge_buffer.specs.declared.waiting.Part.{Part}
 use Rattle.merge_buffer.specs.declared.waiting.Waiting.{Waiting}
@@ -31,11 +31,11 @@ chain_of (suc n) at None = []
 chain_of (suc n) at (Some i) = elim (at i) [ Some w ↦ w.part ∷ chain_of n at w.before | None ↦ [] ]
 
 -- the Inserts that wait on each line are linked from its newest one
-pub record AreChained (waiting : Slab Waiting) (newest : Table) : Type 0 where
+pub record AreChained (waiting : Slab Waiting) (newest : KeyedEntries) : Type 0 where
   pub chains : (line : ℕ) → IsChained (get waiting) (number_at newest line) line
 
 -- those that wait on a line, the newest first, at most `n` of them
-abbrev pub parts_on : ℕ → Slab Waiting → Table → ℕ → List Part
+abbrev pub parts_on : ℕ → Slab Waiting → KeyedEntries → ℕ → List Part
 parts_on n waiting newest line = chain_of n (get waiting) (number_at newest line)
 
 -- byte k of a merged line, None where nothing waits

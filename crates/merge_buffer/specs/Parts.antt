@@ -65,8 +65,8 @@ pub record DiffersAt (ps : List Part) (write : LineWrite) (d : Difference) : Typ
   pub lowest : (x : ℕ) → write.line ≤ x → x < d.at → SameByte ps write x
 
 -- those that wait on a line, after one more Insert
-abbrev pub with_part : Part → ℕ → List Part → List Part
-with_part p line ps = if line == line_of p then p ∷ ps else ps
+abbrev pub parts_with : Part → ℕ → List Part → List Part
+parts_with p line ps = if line == line_of p then p ∷ ps else ps
 
 -- those that wait on a line, after a Write of a line
 abbrev pub without_line : ℕ → ℕ → List Part → List Part

@@ -6,7 +6,7 @@ ghost use Rattle.slab.specs.Slab.{get, slab_len, HasRoomFor};
 ghost use Rattle.key_tree.specs.Entries.{number_at};
 ghost use Rattle.merge_buffer.specs.declared.waiting.Part.{Part as Kept};
 ghost use Rattle.merge_buffer.specs.declared.waiting.Waiting.{Waiting as Entry};
-ghost use Rattle.merge_buffer.specs.Parts.{line_of, latest_byte, with_part, AllBelow, Falls, AllOn, IsWithinLine};
+ghost use Rattle.merge_buffer.specs.Parts.{line_of, latest_byte, parts_with, AllBelow, Falls, AllOn, IsWithinLine};
 ghost use Rattle.merge_buffer.specs.Chains.{IsChain, IsChained, AreChained, parts_on, merged_byte};
 
 use crate::merging::Merged;
@@ -34,7 +34,7 @@ pub fn add(waiting: &mut Slab<Waiting>, newest: &mut KeyTree, part: &Part)
     requires newer { AllBelow part.now.number (parts_on newest.old.capacity waiting.old newest.old (line_of part.now)) }
     ensures chained { AreChained waiting.new newest.new }
     ensures parts { (line : ℕ) → parts_on newest.old.capacity waiting.new newest.new line
-        ≡ with_part part.now line (parts_on newest.old.capacity waiting.old newest.old line) }
+        ≡ parts_with part.now line (parts_on newest.old.capacity waiting.old newest.old line) }
     ensures len { slab_len waiting.new ≡ slab_len waiting.old + 1 }
     ensures capacity { waiting.new.capacity ≡ waiting.old.capacity }
     ensures lines { newest.new.capacity ≡ newest.old.capacity }

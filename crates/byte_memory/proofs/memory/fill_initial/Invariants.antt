@@ -1,6 +1,7 @@
 use Rattle.std.proofs.Common.{ℕ, ◌≡◌, ◌+◌, ◌<◌, ◌≤◌, None, slice_index, slice_index_or}
 use Rattle.elf_image.specs.Images.{loaded_of}
-use Rattle.byte_memory.specs.Memory.{value_over, initial_byte}
+use Rattle.byte_memory.specs.Memory.{value_over}
+use Rattle.elf_image.specs.Images.{initial_byte}
 use Rattle.byte_memory.proofs.memory.fill_initial.Given as goal
 
 abbrev pub invariant-loop-k : goal.invariant-loop-k

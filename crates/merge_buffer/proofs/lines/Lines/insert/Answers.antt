@@ -1,6 +1,6 @@
 use Rattle.std.proofs.Common.{ℕ, ◌≡◌, List, ap, sym, subst, ◌∙◌}
 use Rattle.merge_buffer.specs.declared.waiting.Part.{Part}
-use Rattle.merge_buffer.specs.Parts.{AllBelow, with_part, line_of}
+use Rattle.merge_buffer.specs.Parts.{AllBelow, parts_with, line_of}
 use Rattle.merge_buffer.specs.Chains.{parts_on}
 use Rattle.merge_buffer.specs.Buffers.{Buffer, waiting_on}
 use Rattle.merge_buffer.proofs.Writes.{lines_are}
@@ -25,5 +25,5 @@ returns-clause-waits c = λ line.
     ∙ lines_are l.capacity l.waiting l.newest.entries line in
     lines_are l.capacity c.add.new.waiting c.add.new.newest.entries line
     ∙ subst (λ (n : ℕ). parts_on n c.add.new.waiting c.add.new.newest line
-    ≡ with_part p line (parts_on n l.waiting l.newest line)) c.self.invariant.3 (c.add.ensures.parts line)
-    ∙ ap (with_part p line) (sym is)
+    ≡ parts_with p line (parts_on n l.waiting l.newest line)) c.self.invariant.3 (c.add.ensures.parts line)
+    ∙ ap (parts_with p line) (sym is)
