@@ -1,5 +1,6 @@
 #!/usr/bin/env python3
-"""Prints a stream frame by frame: dump_stream.py STREAM. It judges nothing; it shows where frames begin and what they hold."""
+"""Prints a stream frame by frame: dump_stream.py STREAM. It judges nothing; it shows where frames begin and what they
+hold."""
 import struct, sys
 
 KINDS = ["?", "Open", "Poke", "Read", "Insert", "Write", "Bypass", "Retire", "Squash", "End"]

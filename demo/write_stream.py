@@ -1,13 +1,13 @@
 #!/usr/bin/env python3
-"""Writes an image and the stream of a hart that runs it: write_stream.py IMAGE STREAM. A testbench does the same with what
-its design did; the functions below are all that it needs for instructions that access no memory."""
+"""Writes an image and the stream of a hart that runs it: write_stream.py IMAGE STREAM. A testbench does the same with
+what its design did; the functions below are all that it needs for instructions that access no memory."""
 import struct, sys
 
 OPEN, POKE, RETIRE, END = 1, 2, 7, 9
 
 
 def frame(kind, fields=b"", hart=0, time=0, tag=0):
-    """One message: the length of what follows the first two bytes, the kind, the hart, the time, the tag, the fields."""
+    """One message: the length of what follows the first two bytes, kind, hart, time, tag, and the fields."""
     return struct.pack("<HBBQQ", 18 + len(fields), kind, hart, time, tag) + fields
 
 
