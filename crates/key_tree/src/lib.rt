@@ -6,3 +6,6 @@ mod nodes;
 mod tree;
 
 pub use tree::KeyTree;
+
+#[cfg(test)]
+mod tests;
