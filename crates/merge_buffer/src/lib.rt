@@ -11,3 +11,6 @@ pub use laws::merging_gives_the_newest_byte;
 pub use lines::{Drain, Lines, Took};
 pub use merging::Difference;
 pub use waiting::Part;
+
+#[cfg(test)]
+mod tests;
