@@ -1,6 +1,7 @@
 pub mod Answered
 pub mod Asked
 pub mod Choices
+pub mod Dependents
 pub mod Extents
 pub mod FoundAtomicity
 pub mod FoundLast
@@ -11,6 +12,7 @@ pub mod Latest
 pub mod LastAnswered
 pub mod LastUnique
 pub mod LookUp
+pub mod Looked
 pub mod Marks
 pub mod Membership
 pub mod OperationKinds

@@ -9,6 +9,7 @@ pub mod Last
 pub mod LastAnswer
 pub mod Laws
 pub mod Legal
+pub mod Looks
 pub mod Order
 pub mod ProgramOrder
 pub mod Report

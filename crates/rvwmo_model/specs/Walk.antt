@@ -1,5 +1,5 @@
 -- A walk through the instructions of a hart that finds what depends on one of them.
-use Rattle.std.specs.Prelude.{◌==◌, ◌&&◌, ◌||◌, nat_le, not, List, [], ◌∷◌, ◌++◌, Bool, true, false, None, Some}
+use Rattle.std.specs.Prelude.{ℕ, ◌==◌, ◌&&◌, ◌||◌, nat_le, not, List, [], ◌∷◌, ◌++◌, Bool, true, false, None, Some}
 use Rattle.std.specs.Prelude.{if◌then◌else◌, ◌≡◌, ◌≤◌}
 use Rattle.std.specs.List.{Contains, filter, list_any}
 use Rattle.std.specs.declared.option.Option.{Option}
@@ -58,3 +58,18 @@ finds_from search marks (w ∷ ws) =
 -- some instruction from a tag to a tag depends on the one under the tag at which the search starts
 abbrev pub finds : Search → List Retired → Bool
 finds search insns = finds_from search [] insns
+
+-- a tag, where it is wanted
+abbrev pub tag_if : Bool → ℕ → List ℕ
+tag_if true k = k ∷ []
+tag_if false k = []
+
+-- with these registers marked, the tags of the instructions of hart h that have a marked one in that use; the walk
+-- starts at the instruction under the tag start
+abbrev pub tags_on : Use → ℕ → ℕ → List Register → List Retired → List ℕ
+tags_on by h start marks [] = []
+tags_on by h start marks (w ∷ ws) =
+    if w.hart == h
+    then tag_if (list_any (λ r. use_of by w.insn r) marks) w.tag
+    ++ tags_on by h start (mark w (w.tag == start) marks) ws
+    else tags_on by h start marks ws

@@ -2,7 +2,9 @@
 
 mod answers;
 mod atomic;
+mod dependents;
 mod kinds;
+mod looks;
 mod naming;
 mod newest;
 mod order;

@@ -6,6 +6,7 @@ ghost use Rattle.rvwmo_model.specs.Answer;
 ghost use Rattle.rvwmo_model.specs.Sources;
 ghost use Rattle.rvwmo_model.specs.Tests;
 
+use super::looks::may_be_broken;
 use super::naming::least;
 use super::rules::is_broken;
 use super::sources::keep_later;
@@ -89,7 +90,18 @@ fn order_pair(rule: Rule, b: &Op, first: Option<Op>) -> Option<Judged>
     }
 }
 
+#[tactic(auto, using(crate::proofs::Looked::no_offence))]
 fn order_of(alloc: Global, rule: Rule, t: &Trace) -> Result<Option<Judged>, AllocError>
+    ensures { IfOk result (λ answer. answer ≡ Answer.order_of rule t.now (Answer.broken_second rule t.now)) }
+{
+    if may_be_broken(alloc, rule, t)? {
+        order_found(alloc, rule, t)
+    } else {
+        Ok(None)
+    }
+}
+
+fn order_found(alloc: Global, rule: Rule, t: &Trace) -> Result<Option<Judged>, AllocError>
     ensures { IfOk result (λ answer. answer ≡ Answer.order_of rule t.now (Answer.broken_second rule t.now)) }
 {
     match broken_second(alloc, rule, t)? {

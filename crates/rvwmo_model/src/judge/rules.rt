@@ -164,7 +164,8 @@ fn stores_after(alloc: Global, by: Use, t: &Trace, a: &Op, b: &Op) -> Result<boo
     }
 }
 
-fn depends_by_both(alloc: Global, t: &Trace, a: &Op, tag: u64) -> Result<bool, AllocError>
+/// Whether the instruction under a tag has an address or data dependency on that of `a`.
+pub fn depends_by_both(alloc: Global, t: &Trace, a: &Op, tag: u64) -> Result<bool, AllocError>
     ensures { IfOk result (λ found. found
         ≡ (Tests.depends_at Address t.now a.now tag || Tests.depends_at Data t.now a.now tag)) }
 {

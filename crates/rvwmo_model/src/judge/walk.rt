@@ -1,6 +1,6 @@
 //! A walk through the instructions of a hart that finds what depends on one of them.
 
-ghost use Rattle.std.specs.Prelude.{◌≡◌, ◌++◌, List, not, true, IfOk};
+ghost use Rattle.std.specs.Prelude.{◌≡◌, ◌++◌, List, [], not, true, IfOk};
 ghost use Rattle.std.specs.Bool.{Decides};
 ghost use Rattle.std.specs.List.{filter, list_any};
 ghost use Rattle.rv_decode.specs.Registers;
@@ -181,4 +181,51 @@ fn walk_finds(alloc: Global, search: Search, insns: &[Retired]) -> Result<bool, 
         }
     }
     Ok(false)
+}
+
+fn add_user(tags: &mut Vec<u64>, by: Use, w: &Retired, marks: &[Register]) -> Result<(), AllocError>
+    ensures { IfOk result (λ _. tags.new.items
+        ≡ tags.old.items ++ Walk.tag_if (list_any (λ r. Walk.use_of by w.now.insn r) marks.now) w.now.tag) }
+{
+    if uses_some(by, &w.insn, marks) {
+        tags.push(w.tag)?;
+    }
+    Ok(())
+}
+
+/// Goes on by one instruction: notes its tag where it uses what is marked, and marks what it sets.
+fn step_by(
+    tags: &mut Vec<u64>,
+    marks: &mut Vec<Register>,
+    by: Use,
+    w: &Retired,
+    starts: bool,
+) -> Result<(), AllocError>
+    ensures tags { IfOk result (λ _. tags.new.items
+        ≡ tags.old.items ++ Walk.tag_if (list_any (λ r. Walk.use_of by w.now.insn r) marks.old.items) w.now.tag) }
+    ensures marks { IfOk result (λ _. marks.new.items ≡ Walk.mark w.now starts marks.old.items) }
+{
+    add_user(tags, by, w, marks.as_slice())?;
+    mark(marks, w, starts)
+}
+
+/// The tags of the instructions of a hart that depend, by a register in that use, on the one under the
+/// tag `start`.
+pub fn tags_on(
+    alloc: Global,
+    by: Use,
+    hart: u8,
+    start: u64,
+    insns: &[Retired],
+) -> Result<Vec<u64>, AllocError>
+    ensures { IfOk result (λ tags. tags.items ≡ Walk.tags_on by hart start [] insns.now) }
+{
+    let mut tags = Vec::new(alloc);
+    let mut marks: Vec<Register> = Vec::new(alloc);
+    for w in insns {
+        if w.hart == hart {
+            step_by(&mut tags, &mut marks, by, w, w.tag == start)?;
+        }
+    }
+    Ok(tags)
 }
