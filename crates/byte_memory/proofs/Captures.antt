@@ -1,6 +1,6 @@
 -- One byte more of a capture.
 use Rattle.std.proofs.Common.{ℕ, suc, ◌≡◌, ◌≢◌, ◌+◌, ◌<◌, ◌≤◌, inl, inr, Bool, true, false, List, Option, None}
-use Rattle.std.proofs.Common.{Some, length, get_or, set, refl, sym, ap, ◌∙◌, subst, arith}
+use Rattle.std.proofs.Common.{Some, option_map, if◌then◌else◌, length, get_or, set, refl, sym, ap, ◌∙◌, subst, arith}
 use Rattle.std.proofs.lemmas.Bool.{cases_eq, both_ways}
 use Rattle.std.proofs.lemmas.Bool.Decides.{nat_tests}
 use Rattle.std.proofs.lemmas.List.{get_or-set_same, get_or-set_other}
@@ -8,7 +8,7 @@ use Rattle.byte_memory.specs.declared.capture.Foreign.{Foreign}
 use Rattle.byte_memory.specs.declared.memory.Memory.{Memory}
 use Rattle.tandem_base.specs.declared.names.Position.{Position}
 use Rattle.byte_memory.specs.declared.writer.Writer.{Writer}
-use Rattle.byte_memory.specs.Captures.{FindsForeign, IsLatestForeign, later_of, other_from}
+use Rattle.byte_memory.specs.Captures.{FindsForeign, IsLatestForeign, is_later, other_from}
 use Rattle.tandem_base.specs.Extents.{is_among}
 use Rattle.byte_memory.specs.Memory.{written_at, foreign_writer, other_writer}
 use Rattle.tandem_base.specs.Places.{comes_before}
@@ -31,6 +31,13 @@ other_more m base k xs l so_far j =
     elsewhere : j ≢ k → other_from m base (k + 1) j ≡ other_from m base k j
     elsewhere n = grind (arith, nat_tests)
 
+-- the later of what was found and one more writer, of the byte at x
+abbrev later_of : Option Foreign → ℕ → Option Writer → Option Foreign
+later_of found x None = found
+later_of None x (Some w) = Some (record { at = x; writer = w })
+later_of (Some f) x (Some w) =
+    if comes_before f.writer.place w.place then Some (record { at = x; writer = w }) else Some f
+
 module _ (m : Memory) (h base k : ℕ) where
   more : (x : ℕ) → is_among base k x ≡ true → is_among base (k + 1) x ≡ true
   more x i = grind (arith, nat_tests)
@@ -50,7 +57,7 @@ module _ (m : Memory) (h base k : ℕ) where
   wrote_at : ℕ → Option Writer
   wrote_at x = foreign_writer h (written_at m x)
 
-  pub foreign_more : (found : Option Foreign) → FindsForeign m h base k found
+  foreign_more : (found : Option Foreign) → FindsForeign m h base k found
       → FindsForeign m h base (k + 1) (later_of found (base + k) (foreign_writer h (written_at m (base + k))))
   foreign_more found so_far = by (foreign_writer h (written_at m (base + k))) refl found so_far
     where
@@ -110,3 +117,29 @@ module _ (m : Memory) (h base k : ℕ) where
             ];
             lowest = λ x v i l y. s.lowest x v (under x i (short x f.at s.inside l)) l y;
           })
+
+  -- where the writer comes after what was found, and where it doesn't
+  pub foreign_then : (found : Option Foreign) → is_later found (foreign_writer h (written_at m (base + k))) ≡ true
+      → FindsForeign m h base k found → FindsForeign m h base (k + 1)
+      (option_map (λ w. record { at = base + k; writer = w }) (foreign_writer h (written_at m (base + k))))
+  foreign_then found e s =
+      subst (λ (o : Option Foreign). FindsForeign m h base (k + 1) o) (is_it found
+      (foreign_writer h (written_at m (base + k))) e) (foreign_more found s)
+    where
+      is_it : (found : Option Foreign) (w : Option Writer) → is_later found w ≡ true
+          → later_of found (base + k) w ≡ option_map (λ w. record { at = base + k; writer = w }) w
+      is_it found None e = cc
+      is_it None (Some w) e = refl
+      is_it (Some f) (Some w) e = rw e refl
+
+  pub foreign_else : (found : Option Foreign) → is_later found (foreign_writer h (written_at m (base + k))) ≡ false
+      → FindsForeign m h base k found → FindsForeign m h base (k + 1) found
+  foreign_else found e s =
+      subst (λ (o : Option Foreign). FindsForeign m h base (k + 1) o) (is_it found
+      (foreign_writer h (written_at m (base + k))) e) (foreign_more found s)
+    where
+      is_it : (found : Option Foreign) (w : Option Writer) → is_later found w ≡ false
+          → later_of found (base + k) w ≡ found
+      is_it found None e = refl
+      is_it None (Some w) e = cc
+      is_it (Some f) (Some w) e = rw e refl

@@ -1,6 +1,5 @@
 pub mod CellLaws
 pub mod Captures
-pub mod Entries
+pub mod Found
 pub mod Lines
 pub mod Positions
-pub mod Stores

@@ -63,9 +63,8 @@ FindsForeign memory hart base size None = (x : ℕ) → is_among base size x ≡
     foreign_writer hart (written_at memory x) ≡ None
 FindsForeign memory hart base size (Some found) = IsLatestForeign memory hart base size found
 
--- the later of what was found and one more writer, of the byte at x
-abbrev pub later_of : Option Foreign → ℕ → Option Writer → Option Foreign
-later_of found x None = found
-later_of None x (Some w) = Some (record { at = x; writer = w })
-later_of (Some f) x (Some w) =
-    if comes_before f.writer.place w.place then Some (record { at = x; writer = w }) else Some f
+-- there is a writer, and it comes after what was found
+abbrev pub is_later : Option Foreign → Option Writer → Bool
+is_later found None = false
+is_later None (Some w) = true
+is_later (Some f) (Some w) = comes_before f.writer.place w.place

@@ -1,6 +1,6 @@
 -- What memory keeps of each byte that was stored to.
 use Rattle.std.specs.Prelude.{ℕ, ◌≡◌, ◌+◌, ◌-◌, ◌/◌, ◌%◌, nat_le, nat_lt, ◌&&◌, List, ◌==◌, Bool, Option, None}
-use Rattle.std.specs.Prelude.{Some, is_some, nat_eq, length, slice_index, slice_index_or}
+use Rattle.std.specs.Prelude.{Some, is_some, length, slice_get, slice_index, slice_index_or}
 use Rattle.std.specs.Prelude.{if◌then◌else◌}
 use Rattle.msg_frames.specs.declared.message.Piece.{Piece}
 use Rattle.elf_image.specs.Images.{Loaded, initial_byte}
@@ -10,7 +10,7 @@ use Rattle.byte_memory.specs.declared.writer.Writer.{Writer}
 use Rattle.byte_memory.specs.declared.line.Line.{Line}
 use Rattle.byte_memory.specs.declared.memory.Memory.{Memory}
 use Rattle.std.specs.Option.{option_and_then}
-use Rattle.indexmap.specs.IndexMap.{get}
+use Rattle.key_tree.specs.Entries.{number_at}
 
 -- a byte that was stored to: its value, its last writer, and the last writer of another hart than that one
 pub record Written : Type 0 where
@@ -52,17 +52,25 @@ written_by line k (Some last) =
 abbrev pub written_in : Line → ℕ → Option Written
 written_in line k = written_by line k (slice_index_or line.last k None)
 
+-- the line of a number, None where it isn't ready
+abbrev pub held_line : Memory → ℕ → Option Line
+held_line memory line = option_and_then (λ i. slice_get memory.lines.items i) (number_at memory.index line)
+
 -- the line of the byte at x, None where it isn't ready
 abbrev pub line_at : Memory → ℕ → Option Line
-line_at memory x = get nat_eq memory.lines (x / 64)
+line_at memory x = held_line memory (x / 64)
 
 -- the line of the byte at x may be stored to
 abbrev pub is_ready : Memory → ℕ → Bool
 is_ready memory x = is_some (line_at memory x)
 
+-- the byte at x of a line that may be ready, None where it was never stored to
+abbrev pub written_on : Option Line → ℕ → Option Written
+written_on line x = option_and_then (λ l. written_in l (x % 64)) line
+
 -- what memory keeps of the byte at x, None where it was never stored to
 abbrev pub written_at : Memory → ℕ → Option Written
-written_at memory x = option_and_then (λ line. written_in line (x % 64)) (line_at memory x)
+written_at memory x = written_on (line_at memory x) x
 
 -- the cell of a byte with this initial value
 abbrev pub cell_over : ℕ → Option Written → Cell

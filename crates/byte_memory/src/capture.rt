@@ -1,10 +1,13 @@
 //! What a report saw of memory.
 
-ghost use Rattle.std.specs.Prelude.{◌≡◌, ◌+◌, ◌^◌, ◌<◌, ◌≤◌, ℕ, None, slice_index_or};
+ghost use Rattle.std.specs.Prelude.{◌≡◌, ◌+◌, ◌%◌, ◌^◌, ◌<◌, ◌≤◌, ℕ, None, Some, slice_index_or};
+ghost use Rattle.std.specs.Prelude.{option_copied, option_map};
 ghost use Rattle.tandem_base.specs.Granules.{IsGranule};
 ghost use Rattle.byte_memory.specs.Captures.{FindsForeign, block_base, capture_base, capture_size};
-ghost use Rattle.byte_memory.specs.Captures.{later_of, other_from};
+ghost use Rattle.byte_memory.specs.Captures.{is_later, other_from};
+ghost use Rattle.byte_memory.specs.Memory.{line_at};
 
+use crate::line::Line;
 use crate::memory::Memory;
 use crate::writer::{Cell, Writer};
 use elf_image::Image;
@@ -116,6 +119,7 @@ impl StoreCapture {
         hart: u8,
         block: u8,
     ) -> StoreCapture
+        // The granule of a stream is one of these by the form of its Open.
         requires { IsGranule block }
         ensures place { result.seen.place ≡ place }
         ensures seen { Sees memory.now (loaded_of image.now) extent.now result.seen }
@@ -158,10 +162,26 @@ fn latest_foreign(memory: &Memory, addr: u64, hart: u8, block: u8) -> Option<For
         return None;
     }
     let base = base_of(addr, block);
+    match memory.line(base) {
+        Some(line) => latest_of_line(memory, line, base, hart, block),
+        None => None,
+    }
+}
+
+/// The latest store by another hart to a block of a line.
+fn latest_of_line(memory: &Memory, line: &Line, base: u64, hart: u8, block: u8) -> Option<Foreign>
+    requires there { line_at memory.now base ≡ Some line.now }
+    requires within { base % 64 + block ≤ 64 }
+    requires room { base + block ≤ 2 ^ 64 }
+    ensures { FindsForeign memory.now hart base block result }
+{
     let mut found = None;
     for k in 0..block {
         let at = base + u64::from(k);
-        found = later(found, at, memory.foreign_at(at, hart));
+        let writer = line.foreign((at % 64) as usize, hart);
+        if is_later(&found, writer) {
+            found = told(at, writer);
+        }
     }
     found
 }
@@ -172,23 +192,31 @@ fn base_of(addr: u64, block: u8) -> u64
     requires size { IsGranule block }
     ensures value { result ≡ block_base addr block }
     ensures room { result + block ≤ 2 ^ 64 }
+    ensures line { result % 64 + block ≤ 64 }
 {
     addr - addr % u64::from(block)
 }
 
-/// The later of what was found and one more writer, of the byte at an address.
-fn later(found: Option<Foreign>, at: u64, writer: Option<Writer>) -> Option<Foreign>
-    ensures { result ≡ later_of found at writer }
+/// Whether there is a writer, and it comes after what was found.
+fn is_later(found: &Option<Foreign>, writer: Option<&Writer>) -> bool
+    ensures { result ≡ is_later found.now (option_copied writer.entry) }
 {
     match (found, writer) {
-        (_, None) => found,
-        (None, Some(writer)) => Some(Foreign { at, writer }),
-        (Some(before), Some(writer)) => {
-            if before.writer.place < writer.place {
-                Some(Foreign { at, writer })
-            } else {
-                found
-            }
-        }
+        (_, None) => false,
+        (None, Some(_)) => true,
+        (Some(before), Some(writer)) => before.writer.place < writer.place,
+    }
+}
+
+/// The store of a writer, at an address that it wrote.
+fn told(at: u64, writer: Option<&Writer>) -> Option<Foreign>
+    ensures { result ≡ option_map (λ w. record { at = at; writer = w }) (option_copied writer.entry) }
+{
+    match writer {
+        Some(writer) => Some(Foreign {
+            at,
+            writer: *writer,
+        }),
+        None => None,
     }
 }

@@ -2,6 +2,7 @@
 #![tactic(auto)]
 
 mod capture;
+mod initial;
 mod laws;
 mod line;
 mod memory;

@@ -1,9 +1,13 @@
 //! The bytes of a 64-byte line, with their writers.
 
 ghost use Rattle.std.specs.Prelude.{◌≡◌, ◌≢◌, ◌+◌, ◌*◌, ◌/◌, ◌%◌, ◌^◌, ◌<◌, ◌≤◌, ℕ, length};
-ghost use Rattle.byte_memory.specs.Memory.{written_in, overwritten, after_part};
+ghost use Rattle.std.specs.Prelude.{option_copied};
+ghost use Rattle.elf_image.specs.Images.{loaded_of, initial_byte};
+ghost use Rattle.byte_memory.specs.Memory.{written_in, overwritten, after_part, foreign_writer, other_writer};
+ghost use Rattle.byte_memory.specs.Memory.{cell_over, written_on};
 
-use crate::writer::Writer;
+use crate::writer::{Cell, Writer};
+use elf_image::Image;
 use msg_frames::Piece;
 
 /// A line of memory. A byte without a last writer has never been stored to, and its value is 0.
@@ -58,5 +62,50 @@ impl Line {
             let at = (piece.addr + u64::from(k)) % 64;
             self.put(at as usize, piece.bytes.byte(k), writer);
         }
+    }
+
+    /// The last writer of a byte that is of another hart than this one.
+    pub fn foreign(&self, k: usize, hart: u8) -> Option<&Writer>
+        requires { k < 64 }
+        ensures { option_copied result ≡ foreign_writer hart (written_in self.now k) }
+    {
+        let last = self.last[k].as_ref()?;
+        if last.hart == hart {
+            self.other[k].as_ref()
+        } else {
+            Some(last)
+        }
+    }
+
+    /// The last writer of a byte that is of another hart than its last writer's.
+    pub fn other(&self, k: usize) -> Option<Writer>
+        requires { k < 64 }
+        ensures { result ≡ other_writer (written_in self.now k) }
+    {
+        let _last = self.last[k]?;
+        self.other[k]
+    }
+}
+
+/// The byte at an address of a line that may be there: as the last store to it left it, or with its initial
+/// value.
+pub fn cell_in(line: Option<&Line>, image: &Image, addr: u64) -> Cell
+    ensures { result ≡ cell_over (initial_byte (loaded_of image.now) addr)
+        (written_on (option_copied line.entry) addr) }
+{
+    let k = (addr % 64) as usize;
+    if let Some(line) = line
+        && line.last[k].is_some()
+    {
+        return Cell {
+            value: line.values[k],
+            last: line.last[k],
+            other: line.other[k],
+        };
+    }
+    Cell {
+        value: image.byte(addr).unwrap_or(0),
+        last: None,
+        other: None,
     }
 }

@@ -1,35 +1,38 @@
 //! The bytes of memory that stores wrote.
 
-ghost use Rattle.std.specs.Prelude.{◌≡◌, ◌+◌, ◌%◌, ◌<◌, ℕ, None, slice_index, slice_index_or};
-ghost use Rattle.elf_image.specs.Images.{loaded_of};
-ghost use Rattle.byte_memory.specs.Memory.{value_over};
-ghost use Rattle.elf_image.specs.Images.{initial_byte};
+ghost use Rattle.std.specs.Prelude.{◌≡◌, ℕ, Some, length, slice_get};
+ghost use Rattle.key_tree.specs.Entries.{number_at};
 
-use crate::line::Line;
+use crate::initial::fill_initial;
+use crate::line::{Line, cell_in};
 use crate::writer::{Cell, Writer};
 use elf_image::Image;
-use indexmap::IndexMap;
+use key_tree::KeyTree;
 use msg_frames::Piece;
 use std::alloc::{AllocError, Global};
 
 /// Memory as stores left it, over the initial bytes of an image. Only lines that are ready hold
 /// anything.
-#[derive(Debug, Drop)]
+#[derive(Drop)]
 pub struct Memory {
-    lines: IndexMap<u64, Line>,
+    index: KeyTree,
+    numbers: Vec<u64>,
+    lines: Vec<Line>,
     recent: usize,
+    ghost whole: { length numbers.items ≡ length lines.items },
+    ghost there: { (i n : ℕ) → slice_get numbers.items i ≡ Some n → number_at index n ≡ Some i },
+    ghost back: { (i n : ℕ) → number_at index n ≡ Some i → slice_get numbers.items i ≡ Some n },
 }
 
 impl Memory {
     ghost use Rattle.std.specs.Prelude.{◌≡◌, ◌≢◌, ◌+◌, ◌-◌, ◌*◌, ◌/◌, ◌%◌, ◌^◌, ◌<◌, ◌≤◌, ◌==◌, ◌||◌, ℕ, length};
-    ghost use Rattle.std.specs.Prelude.{slice_index, slice_index_or, option_map, true, false, OnOk, OnErr};
-    ghost use Rattle.std.specs.Prelude.{IfSome, None, is_some, nat_eq, slice_get, Some, if◌then◌else◌};
+    ghost use Rattle.std.specs.Prelude.{slice_index, slice_index_or, option_map, true, false, OnOk, OnErr, IfOk};
+    ghost use Rattle.std.specs.Prelude.{IfSome, None, is_some, Some, option_copied};
     ghost use Rattle.elf_image.specs.Images.{loaded_of};
-    ghost use Rattle.indexmap.specs.IndexMap.{get};
+    ghost use Rattle.key_tree.specs.Entries.{number_at};
     ghost use Rattle.tandem_base.specs.Extents.{is_among};
-    ghost use Rattle.byte_memory.specs.declared.line.Line.{Line};
-    ghost use Rattle.byte_memory.specs.Memory.{foreign_writer, other_writer, is_ready, line_at, written_at};
-    ghost use Rattle.byte_memory.specs.Memory.{cell_at, after_part, after_store};
+    ghost use Rattle.byte_memory.specs.Memory.{is_ready, line_at, held_line, written_at};
+    ghost use Rattle.byte_memory.specs.Memory.{cell_at, after_part, after_store, other_writer};
 
     /// Memory that nothing was stored to, with no line ready.
     pub fn new(alloc: Global) -> Memory
@@ -37,7 +40,9 @@ impl Memory {
         ensures unwritten { (x : ℕ) → written_at result x ≡ None }
     {
         Memory {
-            lines: IndexMap::new(alloc),
+            index: KeyTree::empty(alloc),
+            numbers: Vec::new(alloc),
+            lines: Vec::new(alloc),
             recent: 0,
         }
     }
@@ -49,20 +54,49 @@ impl Memory {
         ensures written { (x : ℕ) → written_at self.new x ≡ written_at self.old x }
     {
         let line = addr / 64;
-        self.recent = match self.find(line) {
-            Some(at) => at,
-            None => {
-                let at = self.lines.len();
-                self.lines.insert(line, Line::new())?;
-                at
+        match self.find(line) {
+            Some(at) => {
+                self.recent = at;
+                Ok(())
             }
-        };
+            None => self.add(line),
+        }
+    }
+
+    /// Adds a line that isn't ready.
+    fn add(&mut self, line: u64) -> Result<(), AllocError>
+        requires { number_at self.old.index line ≡ None }
+        ensures ok { OnOk result ((x : ℕ) → is_ready self.new x ≡ (is_ready self.old x || (x / 64 == line))) }
+        ensures err { OnErr result ((x : ℕ) → is_ready self.new x ≡ is_ready self.old x) }
+        ensures written { (x : ℕ) → written_at self.new x ≡ written_at self.old x }
+    {
+        self.index.reserve()?;
+        self.numbers.reserve(1)?;
+        self.lines.reserve(1)?;
+        let at = self.lines.len();
+        self.numbers.push_reserved(line);
+        self.lines.push_reserved(Line::new());
+        self.index.put(line, at);
+        self.recent = at;
         Ok(())
+    }
+
+    /// Looks the line of an address up, so that the next calls about this line find it at once.
+    pub fn look(&mut self, addr: u64)
+        ensures ready { (x : ℕ) → is_ready self.new x ≡ is_ready self.old x }
+        ensures written { (x : ℕ) → written_at self.new x ≡ written_at self.old x }
+    {
+        match self.find(addr / 64) {
+            Some(at) => self.recent = at,
+            None => {}
+        }
     }
 
     /// Stores the bytes of a piece, all of them in lines that are ready.
     pub fn store(&mut self, piece: &Piece, writer: &Writer)
+        // A Bypass or Insert that passes the top of the address space is refused as a bad range.
         requires within { piece.now.addr + length piece.now.bytes ≤ 2 ^ 64 }
+        // Whoever takes a Bypass or a Write makes its lines ready first, where memory may still be refused.
         requires ready { (x : ℕ) → is_among piece.now.addr (length piece.now.bytes) x ≡ true → is_ready self.old x
             ≡ true }
         ensures written { (x : ℕ) → written_at self.new x ≡ after_store piece.now writer.now x (written_at self.old x) }
@@ -81,7 +115,7 @@ impl Memory {
 
     /// Stores the bytes of a piece from byte `first` up to byte `past`, all of them in one line.
     fn store_part(&mut self, line: u64, piece: &Piece, first: u8, past: u8, writer: &Writer)
-        requires ready { is_some (get nat_eq self.old.lines line) ≡ true }
+        requires ready { is_some (held_line self.old line) ≡ true }
         requires some { first ≤ past }
         requires there { past ≤ length piece.now.bytes }
         requires from { line * 64 ≤ piece.now.addr + first }
@@ -96,10 +130,7 @@ impl Memory {
             unreachable!()
         };
         self.recent = at;
-        let Some(held) = self.lines.get_index_mut(at) else {
-            unreachable!()
-        };
-        held.store(line, piece, first, past, writer);
+        self.lines[at].store(line, piece, first, past, writer);
     }
 
     /// The byte at an address: as the last store to it left it, or with its initial value, which is
@@ -107,22 +138,7 @@ impl Memory {
     pub fn at(&self, image: &Image, addr: u64) -> Cell
         ensures { result ≡ cell_at self.now (loaded_of image.now) addr }
     {
-        let k = (addr % 64) as usize;
-        if let Some(at) = self.find(addr / 64)
-            && let Some((_, line)) = self.lines.get_index(at)
-            && line.last[k].is_some()
-        {
-            return Cell {
-                value: line.values[k],
-                last: line.last[k],
-                other: line.other[k],
-            };
-        }
-        Cell {
-            value: image.byte(addr).unwrap_or(0),
-            last: None,
-            other: None,
-        }
+        cell_in(self.line(addr), image, addr)
     }
 
     /// The eight bytes of an aligned doubleword, with their last writers.
@@ -152,12 +168,8 @@ impl Memory {
             (λ was. was.last) (written_at self.now (base + k)) }
     {
         let offset = (base % 64) as usize;
-        let line = match self.find(base / 64) {
-            Some(at) => self.lines.get_index(at),
-            None => None,
-        };
-        match line {
-            Some((_, line)) => {
+        match self.line(base) {
+            Some(line) => {
                 values.copy_from_slice(&line.values[offset..offset + 8]);
                 last.copy_from_slice(&line.last[offset..offset + 8]);
             }
@@ -165,57 +177,30 @@ impl Memory {
         }
     }
 
-    /// The last writer of a byte that is of another hart than this one.
-    pub(crate) fn foreign_at(&self, addr: u64, hart: u8) -> Option<Writer>
-        ensures { result ≡ foreign_writer hart (written_at self.now addr) }
-    {
-        let at = self.find(addr / 64)?;
-        let (_, line) = self.lines.get_index(at)?;
-        let k = (addr % 64) as usize;
-        let last = line.last[k]?;
-        if last.hart == hart {
-            line.other[k]
-        } else {
-            Some(last)
-        }
-    }
-
     /// The last writer of a byte that is of another hart than its last writer's.
     pub(crate) fn other_at(&self, addr: u64) -> Option<Writer>
         ensures { result ≡ other_writer (written_at self.now addr) }
     {
+        self.line(addr)?.other((addr % 64) as usize)
+    }
+
+    /// The line of an address, None where it isn't ready.
+    pub(crate) fn line(&self, addr: u64) -> Option<&Line>
+        ensures { option_copied result ≡ line_at self.now addr }
+    {
         let at = self.find(addr / 64)?;
-        let (_, line) = self.lines.get_index(at)?;
-        let k = (addr % 64) as usize;
-        let _last = line.last[k]?;
-        line.other[k]
+        self.lines.get(at)
     }
 
     /// The index of a line among those that are ready.
     fn find(&self, line: u64) -> Option<usize>
-        ensures found { is_some result ≡ is_some (get nat_eq self.now.lines line) }
-        ensures entry { IfSome result (λ i. (held : Line) × (slice_get self.now.lines.entries i ≡ Some (line, held))
-            × (get nat_eq self.now.lines line ≡ Some held)) }
+        ensures { result ≡ number_at self.now.index line }
     {
-        if let Some((recent, _)) = self.lines.get_index(self.recent)
+        if let Some(recent) = self.numbers.get(self.recent)
             && *recent == line
         {
             return Some(self.recent);
         }
-        self.lines.get_index_of(&line)
-    }
-}
-
-/// Gives each byte without a writer its initial value.
-fn fill_initial(image: &Image, base: u64, values: &mut [u8; 8], last: &[Option<Writer>; 8])
-    requires { base % 8 ≡ 0 }
-    ensures { (k : ℕ) → k < 8 → slice_index values.new k
-        ≡ value_over (initial_byte (loaded_of image.now) (base + k))
-        (slice_index_or last.now k None) (slice_index values.old k) }
-{
-    for k in 0..8u8 {
-        if last[k as usize].is_none() {
-            values[k as usize] = image.byte(base + u64::from(k)).unwrap_or(0);
-        }
+        self.index.get(line)
     }
 }

@@ -162,6 +162,7 @@ fn an_access_may_cross_a_line(rt: HostRuntime) -> Result<(), Fail> {
     assert_eq!(rt; seen.values, [3, 4, 5, 6, 7, 8, 0, 0]);
     let h1 = Some((1, 1));
     assert_eq!(rt; names(&seen.last), [h1, h1, h1, h1, h1, h1, None, None]);
+    memory.look(Y);
     assert_eq!(rt;
         load(&memory, &image, Y, 4, 15)?.values,
         [5, 6, 7, 8, 0, 0, 0, 0]

@@ -72,3 +72,21 @@ fn a_tree_without_room_has_no_keys(rt: HostRuntime) -> Result<(), Fail> {
     assert_eq!(rt; tree.take(0), None);
     Ok(())
 }
+
+/// Puts a number under a key of a tree that is given room for it.
+fn grows(tree: &mut KeyTree, key: u64, number: usize) -> Result<(), AllocError> {
+    tree.reserve()?;
+    tree.put(key, number);
+    Ok(())
+}
+
+#[test]
+fn a_tree_is_given_room_key_by_key(rt: HostRuntime) -> Result<(), Fail> {
+    let mut tree = KeyTree::empty(rt.alloc());
+    grows(&mut tree, 5, 50)?;
+    grows(&mut tree, 7, 70)?;
+    grows(&mut tree, 5, 80)?;
+    assert_eq!(rt; (tree.get(5), tree.get(7)), (Some(80), Some(70)));
+    assert_eq!(rt; tree.len(), 2);
+    Ok(())
+}

@@ -32,7 +32,7 @@ impl Model for KeyTree {
 }
 
 impl KeyTree {
-    ghost use Rattle.std.specs.Prelude.{◌≡◌, ◌+◌, ◌<◌, ◌≤◌, ℕ, [], length, IfOk, is_some, if◌then◌else◌};
+    ghost use Rattle.std.specs.Prelude.{◌≡◌, ◌+◌, ◌<◌, ◌≤◌, ℕ, [], length, IfOk, OnOk, is_some, if◌then◌else◌};
     ghost use Rattle.key_tree.specs.Entries.{number_at, number_of, put, with_key_taken, AreDistinct};
 
     /// No numbers, with room for `capacity` keys.
@@ -44,6 +44,17 @@ impl KeyTree {
             root: None,
             capacity,
         })
+    }
+
+    /// No numbers, and no room yet.
+    pub fn empty(alloc: Global) -> KeyTree
+        ensures { result ≡ record { entries = []; capacity = 0 } }
+    {
+        KeyTree {
+            nodes: Slab::new(alloc),
+            root: None,
+            capacity: 0,
+        }
     }
 
     /// The number under a key.
@@ -62,8 +73,26 @@ impl KeyTree {
         self.nodes.len()
     }
 
+    /// Makes room for one key more, where there is none.
+    pub fn reserve(&mut self) -> Result<(), AllocError>
+        ensures room { OnOk result (length self.new.entries < self.new.capacity) }
+        ensures entries { self.new.entries ≡ self.old.entries }
+        ensures capacity { self.old.capacity ≤ self.new.capacity }
+    {
+        if self.nodes.len() < self.capacity as usize {
+            return Ok(());
+        }
+        if self.capacity == u32::MAX {
+            return Err(AllocError);
+        }
+        self.nodes.reserve(1)?;
+        self.capacity += 1;
+        Ok(())
+    }
+
     /// Puts a number under a key, in place of the one that is there.
     pub fn put(&mut self, key: u64, number: usize)
+        // A caller has bound the keys by the capacity, asks `len`, or calls `reserve` before.
         requires room { length self.old.entries < self.old.capacity }
         ensures numbers { (q : ℕ) → number_at self.new q ≡ put key number self.old.entries q }
         ensures capacity { self.new.capacity ≡ self.old.capacity }

@@ -1,13 +1,15 @@
 -- How the first difference of two lists is found entry by entry.
 use Rattle.std.proofs.Common.{◌≡◌, ℕ, suc, zero, ◌+◌, ◌≤◌, List, [], ◌∷◌, length, drop, refl, None, Some, Ok}
-use Rattle.std.proofs.Common.{Err, sym, ap, ◌∙◌, arith}
-use Rattle.std.specs.Prelude.{slice_get}
+use Rattle.std.proofs.Common.{Err, sym, ap, subst, ◌∙◌, arith}
+use Rattle.std.specs.Prelude.{OnErr, slice_get}
 use Rattle.std.proofs.lemmas.List.{drop_all}
 use Rattle.std.specs.declared.option.Option.{Option}
 use Rattle.std.specs.declared.result.Result.{Result}
 use Rattle.msg_frames.specs.declared.csrs.CsrValue.{CsrValue}
 use Rattle.verdict_report.specs.declared.fault.Fault.{Fault}
 use Rattle.tandem_base.specs.FirstFault.{◌or_else◌, passed}
+use Rattle.matching.specs.declared.faulty.Faulty.{Faulty}
+use Rattle.matching.specs.Checks.{told, Checks}
 use Rattle.matching.specs.Compares.{csr_entry_fault_of, csr_difference, csr_fault_of}
 
 only_got : (n k : ℕ) (gs : List CsrValue) →
@@ -59,25 +61,53 @@ pub passed_err : (o : Option Fault) (f : Fault) → passed o ≡ Err f → o ≡
 passed_err None f e = absurd (cc)
 passed_err (Some g) f e = cc
 
+-- a check that passed found no fault, and one that failed put its fault into its place
+pub told_ok : (o : Option Fault) (u : Unit {0}) → told o ≡ Ok u → o ≡ None
+told_ok None u e = refl
+told_ok (Some f) u e = absurd (cc)
+
+pub told_err : (o : Option Fault) (e : Faulty) → told o ≡ Err e → (f : Fault) × (o ≡ Some f)
+told_err None e is = absurd (cc)
+told_err (Some f) e is = (f, refl)
+
+on_err : (checked : Result (Unit {0}) Faulty) (P : Type 0) (faulty : Faulty) → checked ≡ Err faulty → OnErr checked P
+    → P
+on_err (Ok u) P faulty e p = absurd (cc)
+on_err (Err f) P faulty e p = p
+
 -- an entry that differs, where none before it does, is the first difference
-pub csr_broken : (k : ℕ) (ws gs : List CsrValue) (checked : Result (Unit {0}) Fault) (f : Fault) →
-    csr_difference 0 ws gs ≡ csr_difference k (drop k ws) (drop k gs) →
-    checked ≡ passed (csr_entry_fault_of k (slice_get ws k) (slice_get gs k)) → checked ≡ Err f →
-    Err f ≡ passed (csr_fault_of ws gs)
-csr_broken k ws gs checked f before is broken =
-    let found : csr_entry_fault_of k (slice_get ws k) (slice_get gs k) ≡ Some f = passed_err _ f (sym is ∙ broken) in
-    let all : csr_difference 0 ws gs ≡ Some f =
+csr_broken : (k : ℕ) (ws gs : List CsrValue) →
+    csr_difference 0 ws gs ≡ csr_difference k (drop k ws) (drop k gs) → (f : Fault) →
+    csr_entry_fault_of k (slice_get ws k) (slice_get gs k) ≡ Some f →
+    csr_fault_of ws gs ≡ csr_entry_fault_of k (slice_get ws k) (slice_get gs k)
+csr_broken k ws gs before f found =
     before ∙ csr_difference-step k ws gs
-    ∙ ap (λ (e : Option Fault). ◌or_else◌ e (csr_difference (k + 1) (drop (k + 1) ws) (drop (k + 1) gs))) found in
-    sym (ap (λ (e : Option Fault). passed e) all)
+    ∙ ap (λ (e : Option Fault). ◌or_else◌ e (csr_difference (k + 1) (drop (k + 1) ws) (drop (k + 1) gs))) found
+    ∙ sym found
+
+-- so the answer to it is the answer to all
+pub csr_refused : (k : ℕ) (ws gs : List CsrValue) (checked : Result (Unit {0}) Faulty) (place : Option Fault)
+    (faulty : Faulty) (want got : Option CsrValue) →
+    csr_difference 0 ws gs ≡ csr_difference k (drop k ws) (drop k gs) →
+    want ≡ slice_get ws k → got ≡ slice_get gs k →
+    Checks (csr_entry_fault_of k want got) checked place → checked ≡ Err faulty →
+    Checks (csr_fault_of ws gs) (Err faulty) place
+csr_refused k ws gs checked place faulty want got before w g by_entry broken =
+    let entry = csr_entry_fault_of k (slice_get ws k) (slice_get gs k) in
+    let is : Checks entry checked place =
+    subst (λ (o : Option CsrValue). Checks (csr_entry_fault_of k o (slice_get gs k)) checked place) w
+    (subst (λ (o : Option CsrValue). Checks (csr_entry_fault_of k want o) checked place) g by_entry) in
+    let found = told_err entry faulty (sym is.0 ∙ broken) in
+    subst (λ (o : Option Fault). Checks o (Err faulty) place) (sym (csr_broken k ws gs before found.0 found.1))
+    (sym broken ∙ is.0, on_err checked (place ≡ entry) faulty broken is.1)
 
 -- one that doesn't differ is passed
-pub csr_passed : (k : ℕ) (ws gs : List CsrValue) (checked : Result (Unit {0}) Fault) (u : Unit {0}) →
+pub csr_passed : (k : ℕ) (ws gs : List CsrValue) (checked : Result (Unit {0}) Faulty) (u : Unit {0}) →
     csr_difference 0 ws gs ≡ csr_difference k (drop k ws) (drop k gs) →
-    checked ≡ passed (csr_entry_fault_of k (slice_get ws k) (slice_get gs k)) → checked ≡ Ok u →
+    checked ≡ told (csr_entry_fault_of k (slice_get ws k) (slice_get gs k)) → checked ≡ Ok u →
     csr_difference 0 ws gs ≡ csr_difference (k + 1) (drop (k + 1) ws) (drop (k + 1) gs)
 csr_passed k ws gs checked u before is fine =
-    let none : csr_entry_fault_of k (slice_get ws k) (slice_get gs k) ≡ None = passed_ok _ u (sym is ∙ fine) in
+    let none : csr_entry_fault_of k (slice_get ws k) (slice_get gs k) ≡ None = told_ok _ u (sym is ∙ fine) in
     before ∙ csr_difference-step k ws gs
     ∙ ap (λ (e : Option Fault). ◌or_else◌ e (csr_difference (k + 1) (drop (k + 1) ws) (drop (k + 1) gs))) none
 

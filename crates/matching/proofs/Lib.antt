@@ -6,4 +6,5 @@ pub mod Waits
 pub mod Younger
 pub mod Steps
 pub mod Same
+pub mod Stepped
 pub mod Standing

@@ -12,14 +12,17 @@ use Rattle.elf_image.specs.Images.{Loaded}
 use Rattle.rv_step.specs.declared.plan.Config.{Config}
 use Rattle.matching.specs.declared.reports.OpenReport.{OpenReport}
 use Rattle.matching.specs.declared.hart_table.HartTable.{HartTable}
+use Rattle.matching.specs.declared.step.Step.{Step}
 use Rattle.matching.specs.declared.tables.Matching.{Matching}
 use Rattle.matching.specs.Settings.{number_after, open_of, config_in, config_of}
 use Rattle.matching.specs.Tags.{last_tag}
 use Rattle.matching.specs.Reports.{early, early_in}
+use Rattle.matching.specs.Steps.{IsStep}
 use Rattle.matching.specs.Matching.{match_fault, body_fault_of}
-use Rattle.matching.specs.Tables.{Table, table_at, table_after, table_fault, table_in, early_put}
+use Rattle.matching.specs.Tables.{Table, table_at, table_after, table_taken, table_fault, table_in, early_put}
 use Rattle.matching.specs.Tables.{early_dropped, Stands, IsSame, Takes}
 use Rattle.matching.proofs.Steps.{table_step}
+use Rattle.matching.proofs.Stepped.{taken_by}
 use Rattle.matching.proofs.Same.{fault_same}
 
 -- tables that hold the same stand for the same
@@ -52,29 +55,26 @@ early_same before old head (body.Retire retire) = refl
 early_same before old head body.Squash = refl
 early_same before old head body.End = refl
 
-kept_same : (image : Loaded) (before : List Message) (m : Message) (h n : ℕ) (config : Config) (es : List OpenReport)
-    (t : Table)
-    → config ≡ config_of before → es ≡ early before → n ≡ number_after before → t ≡ table_at image before h
-    → cond (m.head.hart == h) (table_after image config es n t m.head m.body) t
+kept_same : (image : Loaded) (before : List Message) (m : Message) (h n : ℕ) (step : Step) (t : Table)
+    → IsStep image before m.head m.body step → n ≡ number_after before → t ≡ table_at image before h
+    → cond (m.head.hart == h) (table_taken n t m.head m.body step) t
     ≡ cond (m.head.hart == h)
     (table_after image (config_of before) (early before) (number_after before) (table_at image before h) m.head
     m.body) (table_at image before h)
-kept_same image before m h n config es t e f g k =
-    ap (λ (c : Config). cond (m.head.hart == h) (table_after image c es n t m.head m.body) t) e
-    ∙ ap (λ (r : List OpenReport). cond (m.head.hart == h) (table_after image
-    (config_of before) r n t m.head m.body) t) f
-    ∙ ap (λ (i : ℕ). cond (m.head.hart == h) (table_after image (config_of before) (early before) i t m.head m.body) t)
-    g
-    ∙ ap (λ (u : Table). cond (m.head.hart == h)
-    (table_after image (config_of before) (early before) (number_after before) u m.head m.body) u) k
+kept_same image before m h n step t s g k =
+    ap (λ (u : Table). cond (m.head.hart == h) (table_taken n u m.head m.body step) u) k
+    ∙ taken_by image before m h n step s (m.head.hart == h) refl
+    ∙ ap (λ (i : ℕ). cond (m.head.hart == h)
+    (table_after image (config_of before) (early before) i (table_at image before h) m.head m.body)
+    (table_at image before h)) g
 
 -- a message without a fault is taken
-pub takes_stands : (image : Loaded) (old new : Matching) (before : List Message) (m : Message) (n : ℕ)
+pub takes_stands : (image : Loaded) (old new : Matching) (before : List Message) (m : Message) (n : ℕ) (step : Step)
     → Stands image old before
     → length old.harts.items ≡ 16 → m.head.hart < 16 → Fits m → match_fault image before m ≡ None
-    → n ≡ number_after before
-    → Takes image n m old new → Stands image new (m ∷ before)
-takes_stands image old new before m n s sixteen low fits fine number k =
+    → n ≡ number_after before → IsStep image before m.head m.body step
+    → Takes n m step old new → Stands image new (m ∷ before)
+takes_stands image old new before m n step s sixteen low fits fine number is k =
     let other : HartTable = first_table old.harts.items sixteen in
     let own : table_in old m.head.hart other ≡ table_at image before m.head.hart =
     s.each m.head.hart other low in record {
@@ -95,8 +95,7 @@ takes_stands image old new before m n s sixteen low fits fine number k =
           ∙ early_same before (early before) m.head m.body;
       each = λ h d l.
           k.each h d l
-          ∙ kept_same image before m h n old.config (reverse old.early.items) (table_in old h d) s.config s.early number
-          (s.each h d l)
+          ∙ kept_same image before m h n step (table_in old h d) is number (s.each h d l)
           ∙ sym (table_step image before m h s.clean fine);
     }
 

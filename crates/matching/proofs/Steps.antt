@@ -2,7 +2,7 @@
 use Rattle.std.proofs.Common.{ℕ, ◌≡◌, ◌+◌, ◌==◌, ◌&&◌, nat_lt, nat_le, not, List, [], ◌∷◌, Bool, true, false, cond, map}
 use Rattle.std.proofs.Common.{refl, ap, sym, subst, ◌∙◌, Some, None, arith}
 use Rattle.std.specs.Prelude.{if◌then◌else◌}
-use Rattle.std.specs.List.{filter}
+use Rattle.std.specs.List.{filter, cons_option}
 use Rattle.std.specs.declared.option.Option.{Option}
 use Rattle.std.specs.Option.{option_map}
 use Rattle.std.proofs.Math.Path.{fun_ext}
@@ -22,9 +22,9 @@ use Rattle.matching.specs.declared.stores.Fate.TheVariants.{Nothing, Waiting, Do
 use Rattle.matching.specs.declared.stores.Held.{Held}
 use Rattle.matching.specs.declared.stores.Stored.{Stored}
 use Rattle.matching.specs.declared.stores.Tracked.{Tracked}
-use Rattle.matching.specs.Searches.{with_new}
 use Rattle.matching.specs.Settings.{number_after, config_of}
-use Rattle.matching.specs.Pieces.{has, line_start}
+use Rattle.msg_frames.specs.Pieces.{has}
+use Rattle.matching.specs.Pieces.{line_start}
 use Rattle.matching.specs.Tags.{is_younger, last_tag, is_early}
 use Rattle.matching.specs.Reports.{open_report_of, early}
 use Rattle.matching.specs.Fates.{fate, drained}
@@ -131,7 +131,7 @@ on_bypass false false t new tag piece g ss e f = ap (λ (ys : List Tracked). rec
 -- a store that retires has no fate yet
 new_untouched : (g : Stored → ℕ → Fate) (o : Option Stored) (ss : List Stored)
     → ((s : Stored) → o ≡ Some s → (k : ℕ) → g s k ≡ Nothing)
-    → with_fates g (with_new o ss) ≡ with_new (option_map untouched o) (with_fates g ss)
+    → with_fates g (cons_option o ss) ≡ cons_option (option_map untouched o) (with_fates g ss)
 new_untouched g None ss f = refl
 new_untouched g (Some s) ss f =
     ap (λ (h : ℕ → Fate). tracked h s ∷ with_fates g ss) (fun_ext {f = g s} {g = λ k. Nothing} (f s refl))
@@ -155,8 +155,8 @@ on_retire false t run' last' live' ss ss' e = ap (retire_with t.run t.last t.liv
 
 new_stores : (b : Bool) (g : Stored → ℕ → Fate) (o : Option Stored) (ss : List Stored)
     → (b ≡ true → (s : Stored) → o ≡ Some s → (k : ℕ) → g s k ≡ Nothing)
-    → with_fates g (if b then with_new o ss else ss)
-    ≡ cond b (with_new (option_map untouched o) (with_fates g ss)) (with_fates g ss)
+    → with_fates g (if b then cons_option o ss else ss)
+    ≡ cond b (cons_option (option_map untouched o) (with_fates g ss)) (with_fates g ss)
 new_stores true g o ss f = new_untouched g o ss (f refl)
 new_stores false g o ss f = refl
 

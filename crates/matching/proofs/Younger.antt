@@ -1,6 +1,7 @@
 -- No byte of a store that has not retired has a fate.
 use Rattle.std.proofs.Common.{ℕ, ◌≡◌, ◌==◌, ◌&&◌, nat_lt, nat_le, List, [], ◌∷◌, Bool, true, false}
 use Rattle.std.proofs.Common.{cond, refl, ap, subst, Some, None, arith}
+use Rattle.std.specs.List.{cons_option}
 use Rattle.std.specs.declared.option.Option.{Option}
 use Rattle.std.proofs.lemmas.Bool.{eqb-true, and_parts}
 use Rattle.std.proofs.lemmas.Bool.Decides.{nat_tests}
@@ -17,9 +18,9 @@ use Rattle.verdict_report.specs.declared.fault.Fault.TheVariants as fault
 use Rattle.matching.specs.declared.stores.Fate.{Fate}
 use Rattle.matching.specs.declared.stores.Fate.TheVariants.{Nothing}
 use Rattle.matching.specs.declared.stores.Stored.{Stored}
-use Rattle.matching.specs.Searches.{with_new}
 use Rattle.matching.specs.Settings.{number_after}
-use Rattle.matching.specs.Pieces.{has, line_start}
+use Rattle.msg_frames.specs.Pieces.{has}
+use Rattle.matching.specs.Pieces.{line_start}
 use Rattle.matching.specs.Tags.{is_of, last_in, last_tag, is_younger, is_early}
 use Rattle.matching.specs.Fates.{fate, fate_in, drained}
 use Rattle.matching.specs.Runs.{doing_at, step_at}
@@ -72,7 +73,7 @@ new_store_tag (amo i addr len) t piece s e = absurd (cc)
 found_new : (tag t : ℕ) (o : Option Stored) (ss : List Stored) (s : Stored) (last : Option ℕ)
     → ((n : Stored) → o ≡ Some n → n.tag ≡ tag)
     → tag_fault_of last tag ≡ None → ((old : Stored) → store_under t ss ≡ Some old → is_younger last t ≡ false)
-    → store_under t (with_new o ss) ≡ Some s → nat_lt tag t ≡ false
+    → store_under t (cons_option o ss) ≡ Some s → nat_lt tag t ≡ false
 found_new tag t None ss s last f e g h = younger_down last tag t e (g s h)
 found_new tag t (Some n) ss s last f e g h = by_test (n.tag == t) refl h where
   by_test : (b : Bool) → (n.tag == t) ≡ b → cond b (Some n) (store_under t ss) ≡ Some s → nat_lt tag t ≡ false
@@ -94,7 +95,7 @@ old_retired : (image : Loaded) (before : List Message) (h t : ℕ) (s : Stored) 
     → ((old : Stored) → store_under t (retired_stores image before h) ≡ Some old
     → is_younger (last_tag before h) t ≡ false)
     → store_under t (cond b
-    (with_new (new_store (doing_at image before h) head.tag (step_at image before h head retire).effect.store)
+    (cons_option (new_store (doing_at image before h) head.tag (step_at image before h head retire).effect.store)
     (retired_stores image before h)) (retired_stores image before h)) ≡ Some s
     → is_younger (cond b (Some head.tag) (last_tag before h)) t ≡ false
 old_retired image before h t s head retire true e f g r =

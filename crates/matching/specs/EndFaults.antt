@@ -4,6 +4,7 @@ use Rattle.std.specs.Prelude.{Bool, Some, None, if◌then◌else◌}
 use Rattle.std.specs.declared.option.Option.{Option}
 use Rattle.msg_frames.specs.declared.message.Message.{Message}
 use Rattle.elf_image.specs.Images.{Loaded}
+use Rattle.rv_step.specs.Integers.{sum_of}
 use Rattle.tandem_base.specs.FirstFault.{◌or_else◌}
 use Rattle.verdict_report.specs.declared.fault.Fault.{Fault}
 use Rattle.verdict_report.specs.declared.fault.Fault.TheVariants as fault
@@ -11,7 +12,6 @@ use Rattle.matching.specs.declared.reports.OpenReport.{OpenReport}
 use Rattle.matching.specs.declared.stores.Fate.{Fate}
 use Rattle.matching.specs.declared.stores.Stored.{Stored}
 use Rattle.matching.specs.Searches.{first_below, earliest}
-use Rattle.matching.specs.Pieces.{address}
 use Rattle.matching.specs.Fates.{is_done}
 use Rattle.matching.specs.Stores.{retired_stores}
 use Rattle.matching.specs.PartFaults.{fate_at}
@@ -36,7 +36,7 @@ earliest_left fates ss = earliest (is_open_store fates) ss
 abbrev pub unwritten_fault_at : ℕ → Stored → Option ℕ → Option Fault
 unwritten_fault_at h s None = None
 unwritten_fault_at h s (Some k) =
-    Some (fault.Unwritten (record { hart = h; tag = s.tag }) (address s.piece.addr k))
+    Some (fault.Unwritten (record { hart = h; tag = s.tag }) (sum_of s.piece.addr k))
 
 -- the store, if there is one, with its first such byte
 abbrev pub unwritten_fault_in : (Stored → ℕ → Fate) → ℕ → Option Stored → Option Fault

@@ -12,4 +12,7 @@ pub mod RetireFaults
 pub mod EndFaults
 pub mod Matching
 pub mod Counts
+pub mod StepProps
+pub mod Checks
+pub mod Steps
 pub mod Tables

@@ -1,12 +1,12 @@
 -- What is wrong with a Read, an Insert, a Bypass, a Write or a Poke: one definition for each fault.
 use Rattle.std.specs.Prelude.{ℕ, ◌+◌, ◌-◌, ◌%◌, ◌^◌, ◌==◌, ◌&&◌, nat_le, not, is_some, List, [], ◌∷◌, length}
-use Rattle.std.specs.Prelude.{slice_index, Bool, Some, None, if◌then◌else◌}
+use Rattle.std.specs.Prelude.{Bool, Some, None, if◌then◌else◌}
 use Rattle.std.specs.declared.option.Option.{Option}
 use Rattle.std.specs.Option.{option_or}
 use Rattle.msg_frames.specs.declared.message.Piece.{Piece}
 use Rattle.msg_frames.specs.declared.message.LineWrite.{LineWrite}
 use Rattle.msg_frames.specs.declared.message.Message.{Message}
-use Rattle.std.specs.Int.{bit_at}
+use Rattle.msg_frames.specs.Pieces.{has, byte_in, byte_written}
 use Rattle.elf_image.specs.Images.{Loaded}
 use Rattle.rv_step.specs.Plans.{is_held}
 use Rattle.tandem_base.specs.FirstFault.{◌or_else◌}
@@ -17,7 +17,7 @@ use Rattle.matching.specs.declared.stores.Fate.{Fate}
 use Rattle.matching.specs.declared.stores.Held.{Held}
 use Rattle.matching.specs.declared.stores.Stored.{Stored}
 use Rattle.matching.specs.Searches.{first_below}
-use Rattle.matching.specs.Pieces.{has, byte_in, line_start, first_other}
+use Rattle.matching.specs.Pieces.{line_start, first_other}
 use Rattle.matching.specs.Fates.{fate, is_fresh}
 
 -- a Poke comes before the hart's first Retire
@@ -127,11 +127,6 @@ second_bypass_fault tag (Some r) = Some (fault.StrayBypass tag)
 abbrev pub byte_waiting : List Held → ℕ → Option ℕ
 byte_waiting [] x = None
 byte_waiting (e ∷ es) x = option_or (byte_in e.piece x) (byte_waiting es x)
-
--- the byte that a Write reports at x, none where the mask has none
-abbrev pub byte_written : LineWrite → ℕ → Option ℕ
-byte_written write x =
-    if bit_at write.mask (x - write.line) == 1 then Some (slice_index write.bytes (x - write.line)) else None
 
 -- the byte that differs
 abbrev pub merge_fault_in : List Held → LineWrite → Option ℕ → Option Fault

@@ -1,7 +1,7 @@
 -- The Reads and the early Bypasses that still count. A list of reports has the newest first.
 use Rattle.std.specs.Prelude.{ℕ, zero, suc, ◌+◌, ◌-◌, ◌==◌, ◌&&◌, not, nat_lt, List, [], ◌∷◌, ◌++◌, slice_index, Bool}
 use Rattle.std.specs.Prelude.{Some, None, if◌then◌else◌}
-use Rattle.std.specs.List.{filter}
+use Rattle.std.specs.List.{filter, find}
 use Rattle.std.specs.declared.option.Option.{Option}
 use Rattle.tandem_base.specs.declared.names.Place.{Place}
 use Rattle.msg_frames.specs.declared.message.Head.{Head}
@@ -10,9 +10,8 @@ use Rattle.msg_frames.specs.declared.message.Body.{Body}
 use Rattle.msg_frames.specs.declared.message.Body.TheVariants as body
 use Rattle.msg_frames.specs.declared.message.Message.{Message}
 use Rattle.matching.specs.declared.reports.OpenReport.{OpenReport}
-use Rattle.matching.specs.Searches.{latest}
 use Rattle.matching.specs.Settings.{number_after}
-use Rattle.matching.specs.Pieces.{has}
+use Rattle.msg_frames.specs.Pieces.{has}
 use Rattle.matching.specs.Tags.{is_early}
 
 -- the report of a message, which is message n
@@ -64,7 +63,7 @@ early (m ∷ before) = early_in before (early before) m.head m.body
 
 -- that of an instruction, if it has one
 abbrev pub early_of : List OpenReport → ℕ → ℕ → Option OpenReport
-early_of rs h t = latest (is_report h t) rs
+early_of rs h t = find (is_report h t) rs
 
 -- the report is of byte x of the instruction under tag t
 abbrev pub is_for : ℕ → ℕ → OpenReport → Bool
@@ -72,7 +71,7 @@ is_for t x r = (r.tag == t) && has r.piece x
 
 -- the Read that counts for byte x of the instruction under tag t: the latest live one
 abbrev pub counting : List OpenReport → ℕ → ℕ → Option OpenReport
-counting rs t x = latest (is_for t x) rs
+counting rs t x = find (is_for t x) rs
 
 -- the place of a report
 abbrev pub place_of_report : OpenReport → Place

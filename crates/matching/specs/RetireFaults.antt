@@ -18,7 +18,8 @@ use Rattle.matching.specs.declared.reports.OpenReport.{OpenReport}
 use Rattle.matching.specs.declared.run.Clocks.{Clocks}
 use Rattle.matching.specs.declared.run.Pair.{Pair}
 use Rattle.matching.specs.Searches.{first_below}
-use Rattle.matching.specs.Pieces.{byte_in, first_other}
+use Rattle.msg_frames.specs.Pieces.{byte_in}
+use Rattle.matching.specs.Pieces.{first_other}
 use Rattle.matching.specs.Reports.{counting}
 use Rattle.matching.specs.Runs.{Run, csr_number, clock_at}
 use Rattle.matching.specs.Compares.{pc_fault_of, word_fault_of, trap_fault_of, next_fault_of, rd_fault_of}
@@ -212,6 +213,14 @@ effect_fault_in run retire doing effect bypass =
     or_else amo_fault_of doing effect.store bypass
     or_else pair_fault_of run.pair (is_some bypass) doing
 
+-- The faults of what an instruction loaded and did, in their order: the live Reads of its hart are these.
+abbrev pub loaded_fault_in : Run → List OpenReport → Head → Retire → Doing → Effect → Option OpenReport → Option Fault
+loaded_fault_in run live head retire doing effect bypass =
+    missing_fault_of live head.tag doing
+    or_else torn_fault_of live head.tag doing
+    or_else bypass_fault_of bypass doing
+    or_else effect_fault_in run retire doing effect bypass
+
 -- The faults of a Retire but that of its tag, in their order: the hart is so before it, its live Reads and all early
 -- Bypasses are these, and the model has this plan, this effect and this Bypass.
 unfoldable pub retire_fault_in : Run → List OpenReport → List OpenReport → Head → Retire → PlanOf → Effect
@@ -222,7 +231,4 @@ retire_fault_in run live early head retire plan effect bypass =
     or_else pc_fault_of run.hart.pc retire.pc
     or_else word_fault_of plan.word retire.word
     or_else trap_fault_of effect.trap retire.trap
-    or_else missing_fault_of live head.tag plan.doing
-    or_else torn_fault_of live head.tag plan.doing
-    or_else bypass_fault_of bypass plan.doing
-    or_else effect_fault_in run retire plan.doing effect bypass
+    or_else loaded_fault_in run live head retire plan.doing effect bypass

@@ -8,6 +8,7 @@ use Rattle.msg_frames.specs.declared.message.Retire.{Retire}
 use Rattle.msg_frames.specs.declared.message.Body.{Body}
 use Rattle.msg_frames.specs.declared.message.Body.TheVariants as body
 use Rattle.msg_frames.specs.declared.message.Message.{Message}
+use Rattle.msg_frames.specs.Frames.{rd_value}
 use Rattle.elf_image.specs.Images.{Loaded}
 use Rattle.rv_decode.specs.declared.instruction.Insn.{Insn}
 use Rattle.rv_decode.specs.declared.instruction.Insn.TheVariants as insn
@@ -48,18 +49,13 @@ loaded_in live t (lr i addr len) = Some (bytes_counted live t addr len)
 loaded_in live t (sc i addr len) = None
 loaded_in live t (amo i addr len) = Some (bytes_counted live t addr len)
 
--- the value that a Retire reports for its register, 0 where it reports none
-abbrev pub reported_value : Option RdValue → ℕ
-reported_value None = 0
-reported_value (Some rd) = rd.value
-
--- the loaded bytes; an SC stored exactly where it has an early Bypass; the reported value
+-- the loaded bytes; an SC stored exactly where it has an early Bypass; the value reported for rd, 0 where there is none
 abbrev pub outside_of : List OpenReport → Option OpenReport → ℕ → Retire → Doing → Outside
 outside_of live bypass t retire doing =
     record {
       load = loaded_in live t doing;
       stored = is_some bypass;
-      reported = reported_value retire.rd;
+      reported = rd_value retire.rd;
     }
 
 -- the step of a hart that does this

@@ -1,5 +1,6 @@
 -- The plain stores that retired.
 use Rattle.std.specs.Prelude.{ℕ, ◌==◌, List, [], ◌∷◌, Some, None, if◌then◌else◌}
+use Rattle.std.specs.List.{cons_option, find}
 use Rattle.std.specs.declared.option.Option.{Option}
 use Rattle.msg_frames.specs.declared.message.Head.{Head}
 use Rattle.msg_frames.specs.declared.message.Piece.{Piece}
@@ -9,7 +10,6 @@ use Rattle.msg_frames.specs.declared.message.Message.{Message}
 use Rattle.elf_image.specs.Images.{Loaded}
 use Rattle.rv_step.specs.Steps.{Doing, trap, plain, counter, load, store, lr, sc, amo}
 use Rattle.matching.specs.declared.stores.Stored.{Stored}
-use Rattle.matching.specs.Searches.{latest, with_new}
 use Rattle.matching.specs.Runs.{doing_at, step_at}
 
 -- the store of these bytes under a tag, if there are any
@@ -38,7 +38,9 @@ stores_in image before old head (body.Write write) h = old
 stores_in image before old head (body.Bypass piece) h = old
 stores_in image before old head (body.Retire retire) h =
     if head.hart == h
-    then with_new (new_store (doing_at image before h) head.tag (step_at image before h head retire).effect.store) old
+    then cons_option
+    (new_store (doing_at image before h) head.tag (step_at image before h head retire).effect.store)
+    old
     else old
 stores_in image before old head body.Squash h = old
 stores_in image before old head body.End h = old
@@ -50,4 +52,4 @@ retired_stores image (m ∷ before) h = stores_in image before (retired_stores i
 
 -- that under a tag
 abbrev pub store_under : ℕ → List Stored → Option Stored
-store_under t ss = latest (λ (s : Stored). s.tag == t) ss
+store_under t ss = find (λ (s : Stored). s.tag == t) ss

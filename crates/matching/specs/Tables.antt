@@ -1,8 +1,9 @@
 -- What the tables of the code hold, and what they stand for. Lists have the newest first; the tables keep them in the
--- order in which they came.
+-- order in which they came. The fault of a message and the hart after it are told here a second time, by one hart's
+-- table, since that is what the code computes: proofs show that they are those of Matching, where the meaning stands.
 use Rattle.std.specs.Prelude.{ℕ, ◌≡◌, ◌+◌, ◌<◌, ◌==◌, ◌&&◌, not, nat_lt, List, [], ◌∷◌, reverse, map}
 use Rattle.std.specs.Prelude.{slice_index_or, is_some, Bool, Some, None, if◌then◌else◌}
-use Rattle.std.specs.List.{filter}
+use Rattle.std.specs.List.{filter, cons_option, find}
 use Rattle.std.specs.declared.option.Option.{Option}
 use Rattle.std.specs.Option.{option_map, option_map_or}
 use Rattle.msg_frames.specs.declared.message.OpenInfo.{OpenInfo}
@@ -14,12 +15,15 @@ use Rattle.msg_frames.specs.declared.message.Body.TheVariants as body
 use Rattle.msg_frames.specs.declared.message.Message.{Message}
 use Rattle.elf_image.specs.Images.{Loaded}
 use Rattle.rv_step.specs.declared.plan.Config.{Config}
-use Rattle.rv_step.specs.Plans.{plan_of}
+use Rattle.rv_step.specs.Harts.{HartState}
+use Rattle.rv_step.specs.Plans.{doing_seen, plan_of, plan_seen}
+use Rattle.rv_step.specs.Steps.{Doing, committed}
 use Rattle.rv_step.specs.declared.effect.Effect.{Effect}
 use Rattle.tandem_base.specs.FirstFault.{◌or_else◌}
 use Rattle.verdict_report.specs.declared.fault.Fault.{Fault}
 use Rattle.verdict_report.specs.declared.fault.Fault.TheVariants as fault
 use Rattle.matching.specs.declared.reports.OpenReport.{OpenReport}
+use Rattle.matching.specs.declared.step.Step.{Step}
 use Rattle.matching.specs.declared.stores.Fate.{Fate}
 use Rattle.matching.specs.declared.stores.Fate.TheVariants.{Nothing, Waiting, Done}
 use Rattle.matching.specs.declared.stores.Held.{Held}
@@ -27,13 +31,14 @@ use Rattle.matching.specs.declared.stores.Stored.{Stored}
 use Rattle.matching.specs.declared.stores.Tracked.{Tracked}
 use Rattle.matching.specs.declared.hart_table.HartTable.{HartTable}
 use Rattle.matching.specs.declared.tables.Matching.{Matching}
-use Rattle.matching.specs.Searches.{latest, earliest, with_new}
+use Rattle.matching.specs.Searches.{earliest}
 use Rattle.matching.specs.Settings.{number_after, last_time, open_of, config_in, harts_of, config_of}
-use Rattle.matching.specs.Pieces.{has, line_start}
+use Rattle.msg_frames.specs.Pieces.{has}
+use Rattle.matching.specs.Pieces.{line_start}
 use Rattle.matching.specs.Tags.{is_younger, last_tag}
 use Rattle.matching.specs.Reports.{open_report_of, is_report, live, early, early_of}
 use Rattle.matching.specs.Fates.{drained}
-use Rattle.matching.specs.Runs.{Run, run_of, run_poked, run_retired, doing_in, done_of}
+use Rattle.matching.specs.Runs.{Run, run_of, run_poked, clocks_after, pair_after, doing_in, done_of}
 use Rattle.matching.specs.Stores.{retired_stores, new_store}
 use Rattle.matching.specs.Compares.{tag_fault_of}
 use Rattle.matching.specs.PartFaults.{poke_fault_of, late_fault_of, read_range_fault, insert_range_fault}
@@ -99,52 +104,73 @@ is_in line e = line_start e.piece.addr == line
 abbrev pub held_of : ℕ → Head → Piece → Held
 held_of n head piece = record { number = n; tag = head.tag; piece = piece }
 
+-- the hart after a Retire: what it is to do, what it becomes, and the bytes that it stores
+abbrev pub table_retiring : Table → Head → Retire → Doing → HartState → Option Piece → Table
+table_retiring t head retire doing hart store =
+    record {
+      run = record {
+        hart = hart;
+        clocks = clocks_after doing retire.rd t.run.clocks;
+        pair = pair_after doing t.run.pair;
+      };
+      last = Some head.tag;
+      live = filter (λ (r : OpenReport). nat_lt head.tag r.tag) t.live;
+      inserts = t.inserts;
+      stores = cons_option (option_map untouched (new_store doing head.tag store)) t.stores;
+    }
+
 -- the hart after its Retire
 abbrev pub table_retired : Loaded → Config → List OpenReport → Table → Head → Retire → Table
 table_retired image config early t head retire =
     let doing = doing_in image config t.run in
-    let bypass = early_of early head.hart head.tag in record {
-      run = run_retired t.run t.live bypass head.tag retire doing;
-      last = Some head.tag;
-      live = filter (λ (r : OpenReport). nat_lt head.tag r.tag) t.live;
-      inserts = t.inserts;
-      stores =
-          with_new (option_map untouched
-          (new_store doing head.tag (done_of t.run t.live bypass head.tag retire doing).effect.store))
-          t.stores;
-    }
+    let done = done_of t.run t.live (early_of early head.hart head.tag) head.tag retire doing in
+    table_retiring t head retire doing done.hart done.effect.store
 
--- the hart after message n, which is its own
-abbrev pub table_after : Loaded → Config → List OpenReport → ℕ → Table → Head → Body → Table
-table_after image config early n t head (body.Open info) = t
-table_after image config early n t head (body.Poke poke) = record t { run = run_poked t.run poke }
-table_after image config early n t head (body.Read piece) = record t { live = open_report_of n head piece ∷ t.live }
-table_after image config early n t head (body.Insert piece) =
+-- the hart after its Retire, by the step that is kept
+abbrev pub table_stepped : Table → Head → Retire → Step → Table
+table_stepped t head retire step =
+    table_retiring t head retire (doing_seen step.plan.what) (committed t.run.hart step.effect) step.effect.store
+
+-- the hart after message n, which is its own; what it is after its Retire is given
+abbrev pub table_with : ℕ → Table → Head → Body → (Retire → Table) → Table
+table_with n t head (body.Open info) retired = t
+table_with n t head (body.Poke poke) retired = record t { run = run_poked t.run poke }
+table_with n t head (body.Read piece) retired = record t { live = open_report_of n head piece ∷ t.live }
+table_with n t head (body.Insert piece) retired =
     record t {
       inserts = held_of n head piece ∷ t.inserts;
       stores = map (with_part (Waiting n) head.tag piece) t.stores;
     }
-table_after image config early n t head (body.Write write) =
+table_with n t head (body.Write write) retired =
     record t {
       inserts = filter (λ (e : Held). not (is_in write.line e)) t.inserts;
       stores = map (with_line head.time n write.line) t.stores;
     }
-table_after image config early n t head (body.Bypass piece) =
+table_with n t head (body.Bypass piece) retired =
     if is_younger t.last head.tag then t
     else record t {
       stores =
           map (with_part (Done (record { time = head.time; message = n; insert = n })) head.tag piece) t.stores;
     }
-table_after image config early n t head (body.Retire retire) = table_retired image config early t head retire
-table_after image config early n t head body.Squash =
+table_with n t head (body.Retire retire) retired = retired retire
+table_with n t head body.Squash retired =
     record t { live = filter (λ (r : OpenReport). nat_lt r.tag head.tag) t.live }
-table_after image config early n t head body.End = t
+table_with n t head body.End retired = t
+
+-- the hart after message n, which is its own
+abbrev pub table_after : Loaded → Config → List OpenReport → ℕ → Table → Head → Body → Table
+table_after image config early n t head b =
+    table_with n t head b (λ (retire : Retire). table_retired image config early t head retire)
+
+-- the same, by the step that is kept
+abbrev pub table_taken : ℕ → Table → Head → Body → Step → Table
+table_taken n t head b step = table_with n t head b (λ (retire : Retire). table_stepped t head retire step)
 
 -- ---- what is wrong with a message, by what is kept
 
 -- the store under a tag
 abbrev pub tracked_under : ℕ → List Tracked → Option Tracked
-tracked_under tag ts = latest (λ (t : Tracked). t.store.tag == tag) ts
+tracked_under tag ts = find (λ (t : Tracked). t.store.tag == tag) ts
 
 -- the faults of a part of this store
 abbrev pub tracked_fault : Piece → Option Tracked → Option Fault
@@ -164,6 +190,25 @@ bypass_fault_in early t head piece =
 abbrev pub effect_in : Loaded → Config → List OpenReport → Table → Head → Retire → Effect
 effect_in image config early t head retire =
     (done_of t.run t.live (early_of early head.hart head.tag) head.tag retire (doing_in image config t.run)).effect
+
+-- what is kept of the step of a Retire is that of the hart
+pub record TableStepIs (image : Loaded) (config : Config) (early : List OpenReport) (t : Table) (head : Head)
+    (retire : Retire) (step : Step) : Type 0 where
+  pub plan : plan_seen step.plan ≡ plan_of t.run.hart image config
+  pub effect : step.effect ≡ effect_in image config early t head retire
+  pub bypass : step.bypass ≡ early_of early head.hart head.tag
+
+-- the same where the message is a Retire
+abbrev pub IsTableStep : Loaded → Config → List OpenReport → Table → Head → Body → Step → Type 0
+IsTableStep image config early t head (body.Open info) step = Unit {0}
+IsTableStep image config early t head (body.Poke poke) step = Unit {0}
+IsTableStep image config early t head (body.Read piece) step = Unit {0}
+IsTableStep image config early t head (body.Insert piece) step = Unit {0}
+IsTableStep image config early t head (body.Write write) step = Unit {0}
+IsTableStep image config early t head (body.Bypass piece) step = Unit {0}
+IsTableStep image config early t head (body.Retire retire) step = TableStepIs image config early t head retire step
+IsTableStep image config early t head body.Squash step = Unit {0}
+IsTableStep image config early t head body.End step = Unit {0}
 
 -- the fault of a Retire
 abbrev pub table_retire_fault : Loaded → Config → List OpenReport → Table → Head → Retire → Option Fault
@@ -260,19 +305,17 @@ pub record IsSame (old new : Matching) : Type 0 where
   pub each : (h : ℕ) (other : HartTable) → h < 16 → table_in new h other ≡ table_in old h other
 
 -- hart h after message n, which may be another's
-abbrev pub kept_after : Loaded → ℕ → Message → Matching → ℕ → HartTable → Table
-kept_after image n m old h other =
-    if m.head.hart == h
-    then table_after image old.config (reverse old.early.items) n (table_in old h other) m.head m.body
-    else table_in old h other
+abbrev pub kept_after : ℕ → Message → Step → Matching → ℕ → HartTable → Table
+kept_after n m step old h other =
+    if m.head.hart == h then table_taken n (table_in old h other) m.head m.body step else table_in old h other
 
 -- message n is taken into the table of its hart, and all else is the same
-pub record TakesHart (image : Loaded) (n : ℕ) (m : Message) (old new : Matching) : Type 0 where
+pub record TakesHart (n : ℕ) (m : Message) (step : Step) (old new : Matching) : Type 0 where
   pub known : new.known ≡ old.known
   pub config : new.config ≡ old.config
   pub time : new.time ≡ old.time
   pub early : reverse new.early.items ≡ reverse old.early.items
-  pub each : (h : ℕ) (other : HartTable) → h < 16 → table_in new h other ≡ kept_after image n m old h other
+  pub each : (h : ℕ) (other : HartTable) → h < 16 → table_in new h other ≡ kept_after n m step old h other
 
 -- the early Bypasses with that of message n, where the last retired tag of its hart is this
 abbrev pub early_put : ℕ → Option ℕ → List OpenReport → Head → Body → List OpenReport
@@ -288,14 +331,14 @@ early_put n last old head body.Squash = old
 early_put n last old head body.End = old
 
 -- message n is taken into the early Bypasses, or into the table of its hart, and all else is the same
-pub record TakesReport (image : Loaded) (n : ℕ) (m : Message) (old new : Matching) : Type 0 where
+pub record TakesReport (n : ℕ) (m : Message) (step : Step) (old new : Matching) : Type 0 where
   pub known : new.known ≡ old.known
   pub config : new.config ≡ old.config
   pub time : new.time ≡ old.time
   pub early : (other : HartTable)
       → reverse new.early.items
       ≡ early_put n (table_in old m.head.hart other).last (reverse old.early.items) m.head m.body
-  pub each : (h : ℕ) (other : HartTable) → h < 16 → table_in new h other ≡ kept_after image n m old h other
+  pub each : (h : ℕ) (other : HartTable) → h < 16 → table_in new h other ≡ kept_after n m step old h other
 
 -- the early Bypasses without that of the instruction that retires
 abbrev pub early_dropped : List OpenReport → Head → Body → List OpenReport
@@ -310,7 +353,7 @@ early_dropped old head body.Squash = old
 early_dropped old head body.End = old
 
 -- message n is taken
-pub record Takes (image : Loaded) (n : ℕ) (m : Message) (old new : Matching) : Type 0 where
+pub record Takes (n : ℕ) (m : Message) (step : Step) (old new : Matching) : Type 0 where
   pub known : new.known ≡ option_map_or (λ (info : OpenInfo). info.harts) (open_of m.body) old.known
   pub config : new.config ≡ option_map_or (λ (info : OpenInfo). config_in info.flags) (open_of m.body) old.config
   pub time : new.time ≡ m.head.time
@@ -318,4 +361,4 @@ pub record Takes (image : Loaded) (n : ℕ) (m : Message) (old new : Matching) :
       → reverse new.early.items
       ≡ early_dropped (early_put n (table_in old m.head.hart other).last (reverse old.early.items) m.head m.body) m.head
       m.body
-  pub each : (h : ℕ) (other : HartTable) → h < 16 → table_in new h other ≡ kept_after image n m old h other
+  pub each : (h : ℕ) (other : HartTable) → h < 16 → table_in new h other ≡ kept_after n m step old h other

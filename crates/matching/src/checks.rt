@@ -3,12 +3,14 @@
 ghost use Rattle.std.specs.Prelude.{◌≡◌, ◌+◌, ◌-◌, ◌≤◌, ◌<◌, ◌^◌, ◌%◌, length, reverse, IfSome, OnOk, true};
 ghost use Rattle.std.specs.List.{filter};
 ghost use Rattle.elf_image.specs.Images.{loaded_of};
+ghost use Rattle.msg_frames.specs.Pieces.{byte_written};
 ghost use Rattle.rv_step.specs.Plans.{has_bytes};
-ghost use Rattle.tandem_base.specs.FirstFault.{passed};
+ghost use Rattle.matching.specs.Checks.{Checks};
 ghost use Rattle.matching.specs.Pieces.{first_other};
 ghost use Rattle.matching.specs.PartFaults as Parts;
 ghost use Rattle.matching.specs.Tables as Tables;
 
+use super::faulty::{Faulty, refuse};
 use super::pieces::{byte_at, first_different, fits_line, fits_space};
 use super::reports::OpenReport;
 use super::stores::{Held, Tracked, waiting_byte};
@@ -18,33 +20,33 @@ use tandem_base::Extent;
 use verdict_report::Fault;
 
 /// A Poke comes before the hart's first Retire.
-pub fn check_poke(last: Option<u64>) -> Result<(), Fault>
-    ensures { result ≡ passed (Parts.poke_fault_of last) }
+pub fn check_poke(last: Option<u64>, found: &mut Option<Fault>) -> Result<(), Faulty>
+    ensures { Checks (Parts.poke_fault_of last) result found.new }
 {
     match last {
-        Some(_) => Err(Fault::LatePoke),
+        Some(_) => refuse(found, Fault::LatePoke),
         None => Ok(()),
     }
 }
 
 /// A Read's tag is above the last retired one.
-pub fn check_late(last: Option<u64>, tag: u64) -> Result<(), Fault>
-    ensures { result ≡ passed (Parts.late_fault_of last tag) }
+pub fn check_late(last: Option<u64>, tag: u64, found: &mut Option<Fault>) -> Result<(), Faulty>
+    ensures { Checks (Parts.late_fault_of last tag) result found.new }
 {
     match last {
-        Some(last) if tag <= last => Err(Fault::LateTag { last }),
+        Some(last) if tag <= last => refuse(found, Fault::LateTag { last }),
         _ => Ok(()),
     }
 }
 
 /// A Read doesn't pass 2^64.
-pub fn check_read_range(piece: &Piece) -> Result<(), Fault>
-    ensures { result ≡ passed (Parts.read_range_fault piece.now) }
+pub fn check_read_range(piece: &Piece, found: &mut Option<Fault>) -> Result<(), Faulty>
+    ensures { Checks (Parts.read_range_fault piece.now) result found.new }
 {
     if fits_space(piece) {
         Ok(())
     } else {
-        Err(Fault::BadRange)
+        refuse(found, Fault::BadRange)
     }
 }
 
@@ -66,54 +68,66 @@ fn is_in_image(image: &Image, piece: &Piece) -> bool
 }
 
 /// A Bypass is in the image.
-pub fn check_bypass_range(image: &Image, piece: &Piece) -> Result<(), Fault>
-    ensures fault { result ≡ passed (Parts.bypass_range_fault (loaded_of image.now) piece.now) }
+pub fn check_bypass_range(
+    image: &Image,
+    piece: &Piece,
+    found: &mut Option<Fault>,
+) -> Result<(), Faulty>
+    ensures fault { Checks (Parts.bypass_range_fault (loaded_of image.now) piece.now) result found.new }
     ensures within { OnOk result (piece.now.addr + length piece.now.bytes ≤ 2 ^ 64) }
 {
     if is_in_image(image, piece) {
         Ok(())
     } else {
-        Err(Fault::BadRange)
+        refuse(found, Fault::BadRange)
     }
 }
 
 /// An Insert is in the image and in a line.
-pub fn check_insert_range(image: &Image, piece: &Piece) -> Result<(), Fault>
-    ensures fault { result ≡ passed (Parts.insert_range_fault (loaded_of image.now) piece.now) }
+pub fn check_insert_range(
+    image: &Image,
+    piece: &Piece,
+    found: &mut Option<Fault>,
+) -> Result<(), Faulty>
+    ensures fault { Checks (Parts.insert_range_fault (loaded_of image.now) piece.now) result found.new }
     ensures within { OnOk result (piece.now.addr + length piece.now.bytes ≤ 2 ^ 64) }
 {
     if is_in_image(image, piece) && fits_line(piece) {
         Ok(())
     } else {
-        Err(Fault::BadRange)
+        refuse(found, Fault::BadRange)
     }
 }
 
 /// The bytes are all of the store, and new.
-fn check_known(piece: &Piece, tracked: &Tracked) -> Result<(), Fault>
-    ensures { result ≡ passed (Parts.unknown_fault_of (Tables.fate_in_store tracked.now) piece.now tracked.now.store) }
+fn check_known(piece: &Piece, tracked: &Tracked, found: &mut Option<Fault>) -> Result<(), Faulty>
+    ensures { Checks (Parts.unknown_fault_of (Tables.fate_in_store tracked.now) piece.now tracked.now.store)
+        result found.new }
 {
     if tracked.is_known(piece) {
         Ok(())
     } else {
-        Err(Fault::UnknownStore)
+        refuse(found, Fault::UnknownStore)
     }
 }
 
 /// The bytes are the store's.
-fn check_data(piece: &Piece, tracked: &Tracked) -> Result<(), Fault>
+fn check_data(piece: &Piece, tracked: &Tracked, found: &mut Option<Fault>) -> Result<(), Faulty>
     requires { piece.now.addr + length piece.now.bytes ≤ 2 ^ 64 }
-    ensures { result ≡ passed (Parts.data_fault_of piece.now tracked.now.store) }
+    ensures { Checks (Parts.data_fault_of piece.now tracked.now.store) result found.new }
 {
     let store = &tracked.store.piece;
     match first_different(store, piece, piece.addr, piece.bytes.len()) {
         Some(k) => {
             let at = piece.addr + u64::from(k);
-            Err(Fault::StoreData {
-                at,
-                want: byte_at(store, at),
-                got: byte_at(piece, at),
-            })
+            refuse(
+                found,
+                Fault::StoreData {
+                    at,
+                    want: byte_at(store, at),
+                    got: byte_at(piece, at),
+                },
+            )
         }
         None => Ok(()),
     }
@@ -134,51 +148,47 @@ fn is_whole(piece: &Piece, whole: &Piece) -> bool
 }
 
 /// An aligned store is performed whole.
-fn check_whole(piece: &Piece, tracked: &Tracked) -> Result<(), Fault>
-    ensures { result ≡ passed (Parts.torn_store_fault_of piece.now tracked.now.store) }
+fn check_whole(piece: &Piece, tracked: &Tracked, found: &mut Option<Fault>) -> Result<(), Faulty>
+    ensures { Checks (Parts.torn_store_fault_of piece.now tracked.now.store) result found.new }
 {
     let store = &tracked.store.piece;
     if is_aligned(store) && !is_whole(piece, store) {
-        Err(Fault::TornStore)
+        refuse(found, Fault::TornStore)
     } else {
         Ok(())
     }
 }
 
 /// An Insert or a plain Bypass is a part of a store that retired.
-pub fn check_part(piece: &Piece, found: &Option<Tracked>) -> Result<(), Fault>
+pub fn check_part(
+    piece: &Piece,
+    tracked: &Option<Tracked>,
+    found: &mut Option<Fault>,
+) -> Result<(), Faulty>
     requires { piece.now.addr + length piece.now.bytes ≤ 2 ^ 64 }
-    ensures { result ≡ passed (Tables.tracked_fault piece.now found.now) }
+    ensures { Checks (Tables.tracked_fault piece.now tracked.now) result found.new }
 {
-    match found {
+    match tracked {
         Some(tracked) => {
-            check_known(piece, tracked)?;
-            check_data(piece, tracked)?;
-            check_whole(piece, tracked)
+            check_known(piece, tracked, found)?;
+            check_data(piece, tracked, found)?;
+            check_whole(piece, tracked, found)
         }
-        None => Err(Fault::UnknownStore),
+        None => refuse(found, Fault::UnknownStore),
     }
 }
 
 /// An instruction has at most one early Bypass.
-pub fn check_second(tag: u64, bypass: &Option<OpenReport>) -> Result<(), Fault>
-    ensures { result ≡ passed (Parts.second_bypass_fault tag bypass.now) }
+pub fn check_second(
+    tag: u64,
+    bypass: &Option<OpenReport>,
+    found: &mut Option<Fault>,
+) -> Result<(), Faulty>
+    ensures { Checks (Parts.second_bypass_fault tag bypass.now) result found.new }
 {
     match bypass {
-        Some(_) => Err(Fault::StrayBypass { bypass: tag }),
+        Some(_) => refuse(found, Fault::StrayBypass { bypass: tag }),
         None => Ok(()),
-    }
-}
-
-/// The byte that a Write reports at `line + k`, None where the mask has none.
-fn byte_written(write: &LineWrite, k: u8) -> Option<u8>
-    requires { k < 64 }
-    ensures { result ≡ Parts.byte_written write.now (write.now.line + k) }
-{
-    if (write.mask >> k) % 2 == 1 {
-        Some(write.bytes[usize::from(k)])
-    } else {
-        None
     }
 }
 
@@ -189,12 +199,12 @@ fn first_unlike(inserts: &[Held], write: &LineWrite, count: u8) -> Option<u8>
     ensures bound { IfSome result (λ k. k < count) }
     ensures value { result
         ≡ first_other (Parts.byte_waiting (filter (Tables.is_in write.now.line) (reverse inserts.now)))
-        (Parts.byte_written write.now) write.now.line count }
+        (byte_written write.now) write.now.line count }
 {
     let mut first = None;
     for k in 0..count {
         let want = waiting_byte(inserts, write.line, write.line + u64::from(k));
-        if first.is_none() && want != byte_written(write, k) {
+        if first.is_none() && want != write.byte(k) {
             first = Some(k);
         }
     }
@@ -203,19 +213,26 @@ fn first_unlike(inserts: &[Held], write: &LineWrite, count: u8) -> Option<u8>
 
 /// A Write brings just the bytes that wait in its line.
 #[tactic(auto, unfolding(crate::specs::PartFaults::first_unmerged))]
-pub fn check_merge(inserts: &[Held], write: &LineWrite) -> Result<(), Fault>
+pub fn check_merge(
+    inserts: &[Held],
+    write: &LineWrite,
+    found: &mut Option<Fault>,
+) -> Result<(), Faulty>
     requires { write.now.line % 64 ≡ 0 }
-    ensures { result ≡ passed
-        (Parts.merge_fault_of (filter (Tables.is_in write.now.line) (reverse inserts.now)) write.now) }
+    ensures { Checks (Parts.merge_fault_of (filter (Tables.is_in write.now.line) (reverse inserts.now)) write.now)
+        result found.new }
 {
     match first_unlike(inserts, write, 64) {
         Some(k) => {
             let at = write.line + u64::from(k);
-            Err(Fault::MergeMismatch {
-                at,
-                want: waiting_byte(inserts, write.line, at),
-                got: byte_written(write, k),
-            })
+            refuse(
+                found,
+                Fault::MergeMismatch {
+                    at,
+                    want: waiting_byte(inserts, write.line, at),
+                    got: write.byte(k),
+                },
+            )
         }
         None => Ok(()),
     }

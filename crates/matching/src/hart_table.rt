@@ -1,16 +1,17 @@
 //! What is kept of a hart, and what its messages make of it.
 
 ghost use Rattle.std.specs.Prelude.{◌≡◌, ◌<◌, ◌∷◌, [], ℕ, length, slice_index_or, IfOk, map, not};
-ghost use Rattle.std.specs.Prelude.{reverse, OnErr, OnOk, if◌then◌else◌};
+ghost use Rattle.std.specs.Prelude.{reverse, IsSome, OnErr, OnOk, if◌then◌else◌};
 ghost use Rattle.std.specs.List.{filter};
 ghost use Rattle.elf_image.specs.Images.{loaded_of};
 ghost use Rattle.msg_frames.specs.Frames.{Fits};
-ghost use Rattle.rv_step.specs.Plans.{doing_seen, plan_of, plan_seen};
+ghost use Rattle.rv_step.specs.Plans.{doing_seen, plan_seen};
 ghost use Rattle.tandem_base.specs.FirstFault.{passed, ◌or_else◌};
+ghost use Rattle.matching.specs.Checks.{Checks};
 ghost use Rattle.matching.specs.Tags as Tags;
 ghost use Rattle.matching.specs.Runs as Runs;
 ghost use Rattle.matching.specs.PartFaults as Parts;
-ghost use Rattle.matching.specs.RetireFaults.{retire_fault_in, effect_fault_in, register_fault_of};
+ghost use Rattle.matching.specs.RetireFaults.{retire_fault_in, loaded_fault_in, effect_fault_in, register_fault_of};
 ghost use Rattle.matching.specs.Tables as Tables;
 ghost use Rattle.matching.specs.declared.hart_table.HartTable.{HartTable};
 
@@ -21,18 +22,20 @@ use super::checks::{
 use super::compare::{
     check_csrs, check_next, check_pc, check_rd, check_tag, check_trap, check_word,
 };
-use super::reports::{OpenReport, early_of, keep_above, keep_below, report_from};
+use super::faulty::Faulty;
+use super::reports::{OpenReport, early_into, early_of, keep_above, keep_below, report_from};
 use super::retire::{
     check_amo, check_bypass, check_missing, check_pair, check_stray, check_torn, loaded, rd_want,
 };
-use super::run::{Clocks, Pair, next_pair};
+use super::run::{Clocks, Pair, keep_pair};
+use super::step::Step;
 use super::stores::{
     Fate, Held, Tracked, drop_line, earliest_open, held_from, keep_store, store_under, take_line,
     take_part,
 };
 use elf_image::Image;
 use msg_frames::{Body, Head, LineWrite, Message, Piece, Poke, Retire};
-use rv_step::{Config, Effect, Hart, Outside, Plan, What};
+use rv_step::{Config, Effect, Hart, Outside, What};
 use std::alloc::{AllocError, Global};
 use tandem_base::{Origin, Place};
 use verdict_report::Fault;
@@ -96,12 +99,19 @@ impl HartTable {
     }
 
     /// The faults of an Insert, in their order.
-    fn check_insert(&self, image: &Image, tag: u64, piece: &Piece) -> Result<(), Fault>
-        ensures { result ≡ passed (Parts.insert_range_fault (loaded_of image.now) piece.now
-            or_else Tables.tracked_fault piece.now (Tables.tracked_under tag (Tables.table_of self.now).stores)) }
+    fn check_insert(
+        &self,
+        image: &Image,
+        tag: u64,
+        piece: &Piece,
+        found: &mut Option<Fault>,
+    ) -> Result<(), Faulty>
+        ensures { Checks (Parts.insert_range_fault (loaded_of image.now) piece.now
+            or_else Tables.tracked_fault piece.now (Tables.tracked_under tag (Tables.table_of self.now).stores))
+            result found.new }
     {
-        check_insert_range(image, piece)?;
-        check_part(piece, &store_under(&self.stores, tag))
+        check_insert_range(image, piece, found)?;
+        check_part(piece, &store_under(&self.stores, tag), found)
     }
 
     /// The faults of a Bypass, in their order.
@@ -111,15 +121,17 @@ impl HartTable {
         early: &[OpenReport],
         head: &Head,
         piece: &Piece,
-    ) -> Result<(), Fault>
-        ensures { result ≡ passed (Parts.bypass_range_fault (loaded_of image.now) piece.now
-            or_else Tables.bypass_fault_in (reverse early.now) (Tables.table_of self.now) head.now piece.now) }
+        found: &mut Option<Fault>,
+    ) -> Result<(), Faulty>
+        ensures { Checks (Parts.bypass_range_fault (loaded_of image.now) piece.now
+            or_else Tables.bypass_fault_in (reverse early.now) (Tables.table_of self.now) head.now piece.now)
+            result found.new }
     {
-        check_bypass_range(image, piece)?;
+        check_bypass_range(image, piece, found)?;
         if self.is_early(head.tag) {
-            check_second(head.tag, &early_of(early, head.hart, head.tag))
+            check_second(head.tag, &early_of(early, head.hart, head.tag), found)
         } else {
-            check_part(piece, &store_under(&self.stores, head.tag))
+            check_part(piece, &store_under(&self.stores, head.tag), found)
         }
     }
 
@@ -141,29 +153,24 @@ impl HartTable {
         }
     }
 
-    /// What the hart's next instruction is to do.
-    pub fn plan(&self, image: &Image, config: &Config) -> Plan
-        ensures { plan_seen result ≡ plan_of (Tables.table_of self.now).run.hart (loaded_of image.now) config.now }
-    {
-        self.hart.plan(image, config)
-    }
-
-    /// What the instruction of a Retire does, as the model has it.
-    pub fn effect(
+    /// Works out the step of a Retire.
+    fn step_into(
         &self,
         image: &Image,
         config: &Config,
         early: &[OpenReport],
         head: &Head,
         retire: &Retire,
-    ) -> Effect
-        ensures { result ≡ Tables.effect_in (loaded_of image.now) config.now (reverse early.now)
-            (Tables.table_of self.now) head.now retire.now }
+        step: &mut Step,
+    )
+        ensures { Tables.TableStepIs (loaded_of image.now) config.now (reverse early.now) (Tables.table_of self.now)
+            head.now retire.now step.new }
     {
-        let plan = self.hart.plan(image, config);
-        let bypass = early_of(early, head.hart, head.tag);
-        let outside = self.outside(&bypass, head.tag, retire, &plan.what);
-        self.hart.effect(&plan, &outside)
+        self.hart.plan_into(image, config, &mut step.plan);
+        early_into(early, head.hart, head.tag, &mut step.bypass);
+        let outside = self.outside(&step.bypass, head.tag, retire, &step.plan.what);
+        self.hart
+            .effect_into(&step.plan, &outside, &mut step.effect);
     }
 
     /// The register is what is wanted of it.
@@ -174,11 +181,16 @@ impl HartTable {
         what: &What,
         effect: &Effect,
         stored: bool,
-    ) -> Result<(), Fault>
-        ensures { result ≡ passed (register_fault_of (doing_seen what.now) stored self.now.clocks effect.now.rd
-            retire.now.rd) }
+        found: &mut Option<Fault>,
+    ) -> Result<(), Faulty>
+        ensures { Checks (register_fault_of (doing_seen what.now) stored self.now.clocks effect.now.rd
+            retire.now.rd) result found.new }
     {
-        check_rd(rd_want(what, stored, &self.clocks, effect.rd), &retire.rd)
+        check_rd(
+            rd_want(what, stored, &self.clocks, effect.rd),
+            &retire.rd,
+            found,
+        )
     }
 
     /// The faults of what an instruction did, in their order.
@@ -189,15 +201,38 @@ impl HartTable {
         what: &What,
         effect: &Effect,
         bypass: &Option<OpenReport>,
-    ) -> Result<(), Fault>
-        ensures { result ≡ passed (effect_fault_in (Tables.table_of self.now).run retire.now (doing_seen what.now)
-            effect.now bypass.now) }
+        found: &mut Option<Fault>,
+    ) -> Result<(), Faulty>
+        ensures { Checks (effect_fault_in (Tables.table_of self.now).run retire.now (doing_seen what.now)
+            effect.now bypass.now) result found.new }
     {
-        check_next(effect.next, retire.next)?;
-        self.check_register(retire, what, effect, bypass.is_some())?;
-        check_csrs(&effect.csrs, &retire.csrs)?;
-        check_amo(what, &effect.store, bypass)?;
-        check_pair(&self.pair, bypass.is_some(), what)
+        check_next(effect.next, retire.next, found)?;
+        self.check_register(retire, what, effect, bypass.is_some(), found)?;
+        check_csrs(&effect.csrs, &retire.csrs, found)?;
+        check_amo(what, &effect.store, bypass, found)?;
+        check_pair(&self.pair, bypass.is_some(), what, found)
+    }
+
+    /// The faults of what an instruction loaded and did, in their order.
+    fn check_loaded(
+        &self,
+        head: &Head,
+        retire: &Retire,
+        step: &Step,
+        found: &mut Option<Fault>,
+    ) -> Result<(), Faulty>
+        ensures { Checks (loaded_fault_in (Tables.table_of self.now).run (reverse self.now.live.items)
+            head.now retire.now (doing_seen step.now.plan.what) step.now.effect step.now.bypass) result found.new }
+    {
+        let Step {
+            plan,
+            effect,
+            bypass,
+        } = step;
+        check_missing(&self.live, head.tag, &plan.what, found)?;
+        check_torn(&self.live, head.tag, &plan.what, found)?;
+        check_bypass(bypass, &plan.what, found)?;
+        self.check_effect(retire, &plan.what, effect, bypass, found)
     }
 
     /// The faults of a Retire but that of its tag, in their order.
@@ -207,21 +242,18 @@ impl HartTable {
         early: &[OpenReport],
         head: &Head,
         retire: &Retire,
-        plan: &Plan,
-        effect: &Effect,
-        bypass: &Option<OpenReport>,
-    ) -> Result<(), Fault>
-        ensures { result ≡ passed (retire_fault_in (Tables.table_of self.now).run (reverse self.now.live.items)
-            (reverse early.now) head.now retire.now (plan_seen plan.now) effect.now bypass.now) }
+        step: &Step,
+        found: &mut Option<Fault>,
+    ) -> Result<(), Faulty>
+        ensures { Checks (retire_fault_in (Tables.table_of self.now).run (reverse self.now.live.items)
+            (reverse early.now) head.now retire.now (plan_seen step.now.plan) step.now.effect step.now.bypass)
+            result found.new }
     {
-        check_stray(&plan.what, head.hart, head.tag, early)?;
-        check_pc(self.hart.pc(), retire.pc)?;
-        check_word(plan.word, retire.word)?;
-        check_trap(effect.trap, retire.trap)?;
-        check_missing(&self.live, head.tag, &plan.what)?;
-        check_torn(&self.live, head.tag, &plan.what)?;
-        check_bypass(bypass, &plan.what)?;
-        self.check_effect(retire, &plan.what, effect, bypass)
+        check_stray(&step.plan.what, head.hart, head.tag, early, found)?;
+        check_pc(self.hart.pc(), retire.pc, found)?;
+        check_word(step.plan.word, retire.word, found)?;
+        check_trap(step.effect.trap, retire.trap, found)?;
+        self.check_loaded(head, retire, step, found)
     }
 
     /// The faults of a Retire, in their order.
@@ -232,16 +264,17 @@ impl HartTable {
         early: &[OpenReport],
         head: &Head,
         retire: &Retire,
-    ) -> Result<(), Fault>
-        ensures { result ≡ passed (Tables.table_retire_fault (loaded_of image.now) config.now (reverse early.now)
-            (Tables.table_of self.now) head.now retire.now) }
+        step: &mut Step,
+        found: &mut Option<Fault>,
+    ) -> Result<(), Faulty>
+        ensures fault { Checks (Tables.table_retire_fault (loaded_of image.now) config.now (reverse early.now)
+            (Tables.table_of self.now) head.now retire.now) result found.new }
+        ensures step { OnOk result (Tables.TableStepIs (loaded_of image.now) config.now (reverse early.now)
+            (Tables.table_of self.now) head.now retire.now step.new) }
     {
-        check_tag(self.last, head.tag)?;
-        let plan = self.hart.plan(image, config);
-        let bypass = early_of(early, head.hart, head.tag);
-        let outside = self.outside(&bypass, head.tag, retire, &plan.what);
-        let effect = self.hart.effect(&plan, &outside);
-        self.check_reported(early, head, retire, &plan, &effect, &bypass)
+        check_tag(self.last, head.tag, found)?;
+        self.step_into(image, config, early, head, retire, step);
+        self.check_reported(early, head, retire, step, found)
     }
 
     /// What is first wrong with a message of the hart. That of the End is of all harts.
@@ -251,22 +284,29 @@ impl HartTable {
         config: &Config,
         early: &[OpenReport],
         message: &Message,
-    ) -> Result<(), Fault>
+        step: &mut Step,
+        found: &mut Option<Fault>,
+    ) -> Result<(), Faulty>
         requires { Fits message.now }
-        ensures { result ≡ passed (Tables.table_fault (loaded_of image.now) config.now (reverse early.now)
-            (Tables.table_of self.now) message.now.head message.now.body) }
+        ensures refused { OnErr result (IsSome found.new) }
+        ensures step { OnOk result (Tables.IsTableStep (loaded_of image.now) config.now (reverse early.now)
+            (Tables.table_of self.now) message.now.head message.now.body step.new) }
+        ensures fault { Checks (Tables.table_fault (loaded_of image.now) config.now (reverse early.now)
+            (Tables.table_of self.now) message.now.head message.now.body) result found.new }
     {
         let head = &message.head;
         match &message.body {
-            Body::Poke(_) => check_poke(self.last),
+            Body::Poke(_) => check_poke(self.last, found),
             Body::Read(piece) => {
-                check_late(self.last, head.tag)?;
-                check_read_range(piece)
+                check_late(self.last, head.tag, found)?;
+                check_read_range(piece, found)
             }
-            Body::Insert(piece) => self.check_insert(image, head.tag, piece),
-            Body::Write(write) => check_merge(&self.inserts, write),
-            Body::Bypass(piece) => self.check_bypass(image, early, head, piece),
-            Body::Retire(retire) => self.check_retire(image, config, early, head, retire),
+            Body::Insert(piece) => self.check_insert(image, head.tag, piece, found),
+            Body::Write(write) => check_merge(&self.inserts, write, found),
+            Body::Bypass(piece) => self.check_bypass(image, early, head, piece, found),
+            Body::Retire(retire) => self.check_retire(
+                image, config, early, head, retire, step, found,
+            ),
             Body::Open(_) | Body::Squash | Body::End => Ok(()),
         }
     }
@@ -313,45 +353,29 @@ impl HartTable {
         }
     }
 
-    /// Takes a Retire.
-    fn retire(
-        &mut self,
-        image: &Image,
-        config: &Config,
-        early: &[OpenReport],
-        head: &Head,
-        retire: &Retire,
-    ) -> Result<(), AllocError>
+    /// Takes a Retire, by its step.
+    fn retire(&mut self, head: &Head, retire: &Retire, step: &Step) -> Result<(), AllocError>
         ensures kept { OnErr result (Tables.table_of self.new ≡ Tables.table_of self.old) }
-        ensures taken { OnOk result (Tables.table_of self.new ≡ Tables.table_retired (loaded_of image.now) config.now
-            (reverse early.now) (Tables.table_of self.old) head.now retire.now) }
+        ensures taken { OnOk result (Tables.table_of self.new
+            ≡ Tables.table_stepped (Tables.table_of self.old) head.now retire.now step.now) }
     {
-        let plan = self.hart.plan(image, config);
-        let bypass = early_of(early, head.hart, head.tag);
-        let outside = self.outside(&bypass, head.tag, retire, &plan.what);
-        let effect = self.hart.effect(&plan, &outside);
+        let Step { plan, effect, .. } = step;
         keep_store(&mut self.stores, head.tag, &plan.what, &effect.store)?;
-        self.hart.commit(&effect);
+        self.hart.commit(effect);
         self.clocks.advance(&plan.what, retire.rd);
-        self.pair = next_pair(self.pair, &plan.what);
+        keep_pair(&mut self.pair, &plan.what);
         self.last = Some(head.tag);
         keep_above(&mut self.live, head.tag);
         Ok(())
     }
 
-    /// Takes message `n`, which is of the hart. Where memory is refused nothing has changed.
-    pub fn take(
-        &mut self,
-        image: &Image,
-        config: &Config,
-        early: &[OpenReport],
-        n: u64,
-        message: &Message,
-    ) -> Result<(), AllocError>
+    /// Takes message `n`, which is of the hart; a Retire by its step. Where memory is refused nothing has
+    /// changed.
+    pub fn take(&mut self, n: u64, message: &Message, step: &Step) -> Result<(), AllocError>
         requires { Fits message.now }
         ensures kept { OnErr result (Tables.table_of self.new ≡ Tables.table_of self.old) }
-        ensures taken { OnOk result (Tables.table_of self.new ≡ Tables.table_after (loaded_of image.now) config.now
-            (reverse early.now) n (Tables.table_of self.old) message.now.head message.now.body) }
+        ensures taken { OnOk result (Tables.table_of self.new
+            ≡ Tables.table_taken n (Tables.table_of self.old) message.now.head message.now.body step.now) }
     {
         let head = &message.head;
         match &message.body {
@@ -360,7 +384,7 @@ impl HartTable {
             Body::Insert(piece) => self.insert(n, head, piece)?,
             Body::Write(write) => self.write(n, head, write),
             Body::Bypass(piece) => self.bypass(n, head, piece),
-            Body::Retire(retire) => self.retire(image, config, early, head, retire)?,
+            Body::Retire(retire) => self.retire(head, retire, step)?,
             Body::Squash => keep_below(&mut self.live, head.tag),
             Body::Open(_) | Body::End => {}
         }

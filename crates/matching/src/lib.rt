@@ -4,17 +4,21 @@
 
 mod checks;
 mod compare;
+mod copying;
+mod faulty;
 mod hart_table;
 mod laws;
 mod pieces;
 mod reports;
 mod retire;
 mod run;
+mod step;
 mod stores;
 mod tables;
 
 pub use laws::nothing_is_performed_before_it_retires;
 pub use reports::{OpenReport, bytes_read, counting, early_of};
 pub use run::{Clocks, Pair};
+pub use step::Step;
 pub use stores::{Fate, Held, Stored, Tracked, store_under};
 pub use tables::Matching;

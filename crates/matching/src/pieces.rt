@@ -1,7 +1,8 @@
 //! Bytes of memory, and where they differ.
 
 ghost use Rattle.std.specs.Prelude.{◌≡◌, ◌+◌, ◌≤◌, ◌<◌, ◌^◌, length, IfSome};
-ghost use Rattle.matching.specs.Pieces.{has, byte_in, line_start, first_other};
+ghost use Rattle.msg_frames.specs.Pieces.{has, byte_in};
+ghost use Rattle.matching.specs.Pieces.{line_start, first_other};
 ghost use Rattle.matching.specs.PartFaults.{is_in_space, is_in_line, is_within};
 
 use msg_frames::Piece;

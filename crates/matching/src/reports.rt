@@ -3,7 +3,7 @@
 ghost use Rattle.std.specs.Prelude.{◌≡◌, ◌+◌, ◌≤◌, ◌<◌, ◌==◌, ◌&&◌, not, nat_lt, reverse, IfSome, true};
 ghost use Rattle.std.specs.List.{filter};
 ghost use Rattle.matching.specs.Searches.{first_below};
-ghost use Rattle.matching.specs.Pieces.{has};
+ghost use Rattle.msg_frames.specs.Pieces.{has};
 ghost use Rattle.matching.specs.Reports as Reports;
 ghost use Rattle.matching.specs.RetireFaults as RetireFaults;
 ghost use Rattle.matching.specs.EndFaults as EndFaults;
@@ -51,6 +51,16 @@ pub fn early_of(early: &[OpenReport], hart: u8, tag: u64) -> Option<OpenReport>
         }
     }
     found
+}
+
+/// Looks for the early Bypass of an instruction, and puts it into its place; None if it has none.
+pub(crate) fn early_into(early: &[OpenReport], hart: u8, tag: u64, bypass: &mut Option<OpenReport>)
+    ensures { bypass.new ≡ Reports.early_of (reverse early.now) hart tag }
+{
+    *bypass = None;
+    if !early.is_empty() {
+        *bypass = early_of(early, hart, tag);
+    }
 }
 
 /// The Read that counts for byte x of an instruction.
@@ -138,7 +148,9 @@ pub fn bytes_read(live: &[OpenReport], tag: u64, extent: &Extent) -> Bytes8
 pub(crate) fn keep_above(live: &mut Vec<OpenReport>, tag: u64)
     ensures { reverse live.new.items ≡ filter (λ r. nat_lt tag r.tag) (reverse live.old.items) }
 {
-    live.retain(|r| tag < r.tag);
+    if !live.is_empty() {
+        live.retain(|r| tag < r.tag);
+    }
 }
 
 /// Drops the Reads from a tag on.
@@ -153,7 +165,9 @@ pub(crate) fn drop_report(early: &mut Vec<OpenReport>, hart: u8, tag: u64)
     ensures { reverse early.new.items
         ≡ filter (λ r. not (Reports.is_report hart tag r)) (reverse early.old.items) }
 {
-    early.retain(|r| !(r.hart == hart && r.tag == tag));
+    if !early.is_empty() {
+        early.retain(|r| !(r.hart == hart && r.tag == tag));
+    }
 }
 
 /// Whether a Bypass comes before another: by hart, then by tag.

@@ -2,11 +2,13 @@
 
 ghost use Rattle.std.specs.Prelude.{◌≡◌, ◌+◌, reverse, is_some};
 ghost use Rattle.rv_step.specs.Plans.{doing_seen};
-ghost use Rattle.tandem_base.specs.FirstFault.{passed};
+ghost use Rattle.matching.specs.Checks.{Checks};
 ghost use Rattle.matching.specs.Runs.{loaded_in};
-ghost use Rattle.matching.specs.Pieces.{byte_in, first_other};
+ghost use Rattle.msg_frames.specs.Pieces.{byte_in};
+ghost use Rattle.matching.specs.Pieces.{first_other};
 ghost use Rattle.matching.specs.RetireFaults as Faults;
 
+use super::faulty::{Faulty, refuse};
 use super::pieces::{byte_at, first_different};
 use super::reports::{OpenReport, bytes_read, first_missing, first_torn};
 use super::run::{Clocks, Pair};
@@ -76,88 +78,132 @@ fn lowest_stray(what: &What, hart: u8, tag: u64, early: &[OpenReport]) -> Option
 }
 
 /// No early Bypass of the hart is left behind, or belongs to an instruction that may have none.
-pub fn check_stray(what: &What, hart: u8, tag: u64, early: &[OpenReport]) -> Result<(), Fault>
-    ensures { result
-        ≡ passed (Faults.stray_fault_of (Faults.lowest_stray (doing_seen what.now) hart tag (reverse early.now))) }
+pub fn check_stray(
+    what: &What,
+    hart: u8,
+    tag: u64,
+    early: &[OpenReport],
+    found: &mut Option<Fault>,
+) -> Result<(), Faulty>
+    ensures { Checks (Faults.stray_fault_of (Faults.lowest_stray (doing_seen what.now) hart tag (reverse early.now)))
+        result found.new }
 {
     match lowest_stray(what, hart, tag, early) {
-        Some(bypass) => Err(Fault::StrayBypass { bypass }),
+        Some(bypass) => refuse(found, Fault::StrayBypass { bypass }),
         None => Ok(()),
     }
 }
 
 /// Each of these bytes has a Read.
-fn check_present(live: &[OpenReport], tag: u64, extent: &Extent) -> Result<(), Fault>
-    ensures { result ≡ passed (Faults.reads_missing (reverse live.now) tag extent.now.addr extent.now.len) }
+fn check_present(
+    live: &[OpenReport],
+    tag: u64,
+    extent: &Extent,
+    found: &mut Option<Fault>,
+) -> Result<(), Faulty>
+    ensures { Checks (Faults.reads_missing (reverse live.now) tag extent.now.addr extent.now.len) result found.new }
 {
     match first_missing(live, tag, extent) {
-        Some(k) => Err(Fault::MissingRead {
-            at: extent.addr() + u64::from(k),
-        }),
+        Some(k) => refuse(
+            found,
+            Fault::MissingRead {
+                at: extent.addr() + u64::from(k),
+            },
+        ),
         None => Ok(()),
     }
 }
 
 /// These bytes have one Read.
-fn check_one(live: &[OpenReport], tag: u64, extent: &Extent) -> Result<(), Fault>
-    ensures { result ≡ passed (Faults.reads_torn (reverse live.now) tag extent.now.addr extent.now.len) }
+fn check_one(
+    live: &[OpenReport],
+    tag: u64,
+    extent: &Extent,
+    found: &mut Option<Fault>,
+) -> Result<(), Faulty>
+    ensures { Checks (Faults.reads_torn (reverse live.now) tag extent.now.addr extent.now.len) result found.new }
 {
     match first_torn(live, tag, extent) {
-        Some(k) => Err(Fault::TornRead {
-            at: extent.addr() + u64::from(k),
-        }),
+        Some(k) => refuse(
+            found,
+            Fault::TornRead {
+                at: extent.addr() + u64::from(k),
+            },
+        ),
         None => Ok(()),
     }
 }
 
 /// Each byte of a load, an LR or an AMO has a Read.
-pub fn check_missing(live: &[OpenReport], tag: u64, what: &What) -> Result<(), Fault>
-    ensures { result ≡ passed (Faults.missing_fault_of (reverse live.now) tag (doing_seen what.now)) }
+pub fn check_missing(
+    live: &[OpenReport],
+    tag: u64,
+    what: &What,
+    found: &mut Option<Fault>,
+) -> Result<(), Faulty>
+    ensures { Checks (Faults.missing_fault_of (reverse live.now) tag (doing_seen what.now)) result found.new }
 {
     match what {
         What::Load(_, extent) | What::Lr(_, extent) | What::Amo(_, extent) => {
-            check_present(live, tag, extent)
+            check_present(live, tag, extent, found)
         }
         _ => Ok(()),
     }
 }
 
 /// The bytes of an aligned load, of an LR or of an AMO have one Read.
-pub fn check_torn(live: &[OpenReport], tag: u64, what: &What) -> Result<(), Fault>
-    ensures { result ≡ passed (Faults.torn_fault_of (reverse live.now) tag (doing_seen what.now)) }
+pub fn check_torn(
+    live: &[OpenReport],
+    tag: u64,
+    what: &What,
+    found: &mut Option<Fault>,
+) -> Result<(), Faulty>
+    ensures { Checks (Faults.torn_fault_of (reverse live.now) tag (doing_seen what.now)) result found.new }
 {
     match what {
         What::Load(_, extent) if extent.addr() % u64::from(extent.len()) == 0 => {
-            check_one(live, tag, extent)
+            check_one(live, tag, extent, found)
         }
-        What::Lr(_, extent) | What::Amo(_, extent) => check_one(live, tag, extent),
+        What::Lr(_, extent) | What::Amo(_, extent) => check_one(live, tag, extent, found),
         _ => Ok(()),
     }
 }
 
 /// An AMO has an early Bypass.
-pub fn check_bypass(bypass: &Option<OpenReport>, what: &What) -> Result<(), Fault>
-    ensures { result ≡ passed (Faults.bypass_fault_of bypass.now (doing_seen what.now)) }
+pub fn check_bypass(
+    bypass: &Option<OpenReport>,
+    what: &What,
+    found: &mut Option<Fault>,
+) -> Result<(), Faulty>
+    ensures { Checks (Faults.bypass_fault_of bypass.now (doing_seen what.now)) result found.new }
 {
     match what {
-        What::Amo(..) if bypass.is_none() => Err(Fault::MissingBypass),
+        What::Amo(..) if bypass.is_none() => refuse(found, Fault::MissingBypass),
         _ => Ok(()),
     }
 }
 
 /// These bytes of a Bypass are the result's.
-fn check_result(extent: &Extent, stored: &Piece, got: &Piece) -> Result<(), Fault>
-    ensures { result ≡ passed (Faults.amo_fault_in extent.now.addr stored.now got.now
-        (first_other (byte_in stored.now) (byte_in got.now) extent.now.addr extent.now.len)) }
+fn check_result(
+    extent: &Extent,
+    stored: &Piece,
+    got: &Piece,
+    found: &mut Option<Fault>,
+) -> Result<(), Faulty>
+    ensures { Checks (Faults.amo_fault_in extent.now.addr stored.now got.now
+        (first_other (byte_in stored.now) (byte_in got.now) extent.now.addr extent.now.len)) result found.new }
 {
     match first_different(stored, got, extent.addr(), extent.len()) {
         Some(k) => {
             let at = extent.addr() + u64::from(k);
-            Err(Fault::AmoData {
-                at,
-                want: byte_at(stored, at),
-                got: byte_at(got, at),
-            })
+            refuse(
+                found,
+                Fault::AmoData {
+                    at,
+                    want: byte_at(stored, at),
+                    got: byte_at(got, at),
+                },
+            )
         }
         None => Ok(()),
     }
@@ -169,12 +215,13 @@ pub fn check_amo(
     what: &What,
     stored: &Option<Piece>,
     bypass: &Option<OpenReport>,
-) -> Result<(), Fault>
-    ensures { result ≡ passed (Faults.amo_fault_of (doing_seen what.now) stored.now bypass.now) }
+    found: &mut Option<Fault>,
+) -> Result<(), Faulty>
+    ensures { Checks (Faults.amo_fault_of (doing_seen what.now) stored.now bypass.now) result found.new }
 {
     match (what, stored, bypass) {
         (What::Sc(_, extent) | What::Amo(_, extent), Some(stored), Some(bypass)) => {
-            check_result(extent, stored, &bypass.piece)
+            check_result(extent, stored, &bypass.piece, found)
         }
         _ => Ok(()),
     }
@@ -219,11 +266,16 @@ fn is_in_pair(extent: &Extent, pair: &Option<Pair>) -> bool
 }
 
 /// A successful SC has a pair, which has its bytes.
-pub fn check_pair(pair: &Option<Pair>, stored: bool, what: &What) -> Result<(), Fault>
-    ensures { result ≡ passed (Faults.pair_fault_of pair.now stored (doing_seen what.now)) }
+pub fn check_pair(
+    pair: &Option<Pair>,
+    stored: bool,
+    what: &What,
+    found: &mut Option<Fault>,
+) -> Result<(), Faulty>
+    ensures { Checks (Faults.pair_fault_of pair.now stored (doing_seen what.now)) result found.new }
 {
     match what {
-        What::Sc(_, extent) if stored && !is_in_pair(extent, pair) => Err(Fault::ScPair),
+        What::Sc(_, extent) if stored && !is_in_pair(extent, pair) => refuse(found, Fault::ScPair),
         _ => Ok(()),
     }
 }

@@ -63,16 +63,18 @@ impl Clocks {
     }
 }
 
-/// The bytes of the LR that a later SC is paired with, after an instruction.
-pub(crate) fn next_pair(pair: Option<Pair>, what: &What) -> Option<Pair>
-    ensures { result ≡ pair_after (doing_seen what.now) pair }
+/// Keeps the bytes of an LR, which an SC ends.
+pub(crate) fn keep_pair(pair: &mut Option<Pair>, what: &What)
+    ensures { pair.new ≡ pair_after (doing_seen what.now) pair.old }
 {
     match what {
-        What::Lr(_, extent) => Some(Pair {
-            addr: extent.addr(),
-            len: extent.len(),
-        }),
-        What::Sc(..) => None,
-        _ => pair,
+        What::Lr(_, extent) => {
+            *pair = Some(Pair {
+                addr: extent.addr(),
+                len: extent.len(),
+            });
+        }
+        What::Sc(..) => *pair = None,
+        _ => {}
     }
 }

@@ -3,11 +3,12 @@
 ghost use Rattle.std.specs.Prelude.{◌≡◌, ◌+◌, ◌==◌, ◌&&◌, ◌<◌, ◌≤◌, not, reverse, map, true};
 ghost use Rattle.std.specs.Prelude.{IfSome, OnErr, OnOk, slice_index_or};
 ghost use Rattle.std.specs.Prelude.{is_some, if◌then◌else◌};
-ghost use Rattle.std.specs.List.{filter};
+ghost use Rattle.std.specs.List.{filter, cons_option};
 ghost use Rattle.std.specs.Option.{option_map};
 ghost use Rattle.rv_step.specs.Plans.{doing_seen};
-ghost use Rattle.matching.specs.Searches.{first_below, earliest, with_new};
-ghost use Rattle.matching.specs.Pieces.{has, line_start};
+ghost use Rattle.matching.specs.Searches.{first_below, earliest};
+ghost use Rattle.msg_frames.specs.Pieces.{has};
+ghost use Rattle.matching.specs.Pieces.{line_start};
 ghost use Rattle.matching.specs.Fates as Fates;
 ghost use Rattle.matching.specs.Stores.{new_store};
 ghost use Rattle.matching.specs.PartFaults.{is_again, is_known, byte_waiting};
@@ -277,7 +278,7 @@ pub(crate) fn keep_store(
 ) -> Result<(), AllocError>
     ensures kept { OnErr result (reverse stores.new.items ≡ reverse stores.old.items) }
     ensures taken { OnOk result (reverse stores.new.items
-        ≡ with_new (option_map Tables.untouched (new_store (doing_seen what.now) tag piece.now))
+        ≡ cons_option (option_map Tables.untouched (new_store (doing_seen what.now) tag piece.now))
         (reverse stores.old.items)) }
 {
     match (what, piece) {

@@ -3,12 +3,15 @@
 ghost use Rattle.std.specs.Prelude.{◌≡◌, ◌≤◌, length};
 ghost use Rattle.matching.specs.Settings as Settings;
 
+use super::copying::copies;
+use super::faulty::{Faulty, refuse};
 use super::hart_table::{HartTable, starts};
 use super::reports::{OpenReport, drop_report, first_early, report_from};
+use super::step::Step;
 use super::stores::Tracked;
 use elf_image::Image;
-use msg_frames::{Body, Head, Message, Retire};
-use rv_step::{Config, Effect, Plan};
+use msg_frames::{Body, Head, Message};
+use rv_step::Config;
 use std::alloc::{AllocError, Global};
 use tandem_base::Origin;
 use verdict_report::Fault;
@@ -45,16 +48,17 @@ fn config_in_flags(flags: u8) -> Config
 }
 
 impl Matching {
-    ghost use Rattle.std.specs.Prelude.{◌≡◌, ◌+◌, ◌<◌, ℕ, List, [], ◌∷◌, reverse, true, IfOk};
-    ghost use Rattle.std.specs.Prelude.{None, Some, Ok, IfNone, OnSome, OnErr, OnOk};
+    ghost use Rattle.std.specs.Prelude.{◌≡◌, ◌+◌, ◌<◌, ℕ, List, [], ◌∷◌, reverse, true, IfOk, IsSome};
+    ghost use Rattle.std.specs.Prelude.{None, IfNone, OnErr, OnOk};
     ghost use Rattle.std.specs.Option.{option_map_or};
     ghost use Rattle.elf_image.specs.Images.{Loaded, loaded_of};
     ghost use Rattle.msg_frames.specs.Frames.{Fits};
     ghost use Rattle.msg_frames.specs.declared.message.Message.{Message};
     ghost use Rattle.msg_frames.specs.declared.message.Body.TheVariants as Body;
     ghost use Rattle.tandem_base.specs.FirstFault.{passed};
-    ghost use Rattle.verdict_report.specs.declared.fault.Fault.{Fault};
     ghost use Rattle.matching.specs.Settings.{number_after};
+    ghost use Rattle.matching.specs.Checks.{Checks};
+    ghost use Rattle.matching.specs.Steps.{IsStep};
     ghost use Rattle.matching.specs.Tags.{is_younger};
     ghost use Rattle.matching.specs.Matching.{match_fault, body_fault_of, stream_fault_of, end_fault_of};
     ghost use Rattle.matching.specs.EndFaults.{unwritten_below, first_bypass, unretired_fault_of};
@@ -76,22 +80,32 @@ impl Matching {
     }
 
     /// The place of message `number` in the stream.
-    fn check_place(&self, number: u64, message: &Message) -> Result<(), Fault>
+    fn check_place(
+        &self,
+        number: u64,
+        message: &Message,
+        found: &mut Option<Fault>,
+    ) -> Result<(), Faulty>
         requires { Fits message.now }
         ensures known { OnOk result (message.now.head.hart < 16) }
+        ensures refused { OnErr result (IsSome found.new) }
         ensures fault { (image : Loaded) (before : List Message) → Stands image self.now before →
-            number ≡ number_after before → result ≡ passed (stream_fault_of before message.now) }
+            number ≡ number_after before → Checks (stream_fault_of before message.now) result found.new }
     {
         let opens = is_open_message(&message.body);
         if number == 1 {
-            return if opens { Ok(()) } else { Err(Fault::BadOpen) };
+            return if opens {
+                Ok(())
+            } else {
+                refuse(found, Fault::BadOpen)
+            };
         }
         if opens {
-            Err(Fault::BadOpen)
+            refuse(found, Fault::BadOpen)
         } else if message.head.hart >= self.known {
-            Err(Fault::BadHart)
+            refuse(found, Fault::BadHart)
         } else if message.head.time < self.time {
-            Err(Fault::TimeBack { last: self.time })
+            refuse(found, Fault::TimeBack { last: self.time })
         } else {
             Ok(())
         }
@@ -146,40 +160,88 @@ impl Matching {
         self.check_early()
     }
 
+    /// The same, with the fault put into a place.
+    fn check_last(&self, found: &mut Option<Fault>) -> Result<(), Faulty>
+        ensures refused { OnErr result (IsSome found.new) }
+        ensures fault { (image : Loaded) (before : List Message) → Stands image self.now before →
+            Checks (end_fault_of image before) result found.new }
+    {
+        match self.check_end() {
+            Ok(()) => Ok(()),
+            Err(fault) => refuse(found, fault),
+        }
+    }
+
     /// What is first wrong with a message of a hart, by the hart's table.
-    fn check_hart(&self, image: &Image, message: &Message) -> Result<(), Fault>
+    fn check_hart(
+        &self,
+        image: &Image,
+        message: &Message,
+        step: &mut Step,
+        found: &mut Option<Fault>,
+    ) -> Result<(), Faulty>
         requires known { message.now.head.hart < 16 }
         requires fits { Fits message.now }
-        ensures { (before : List Message) → Stands (loaded_of image.now) self.now before →
+        ensures refused { OnErr result (IsSome found.new) }
+        ensures step { (before : List Message) → Stands (loaded_of image.now) self.now before →
+            OnOk result (IsStep (loaded_of image.now) before message.now.head message.now.body step.new) }
+        ensures fault { (before : List Message) → Stands (loaded_of image.now) self.now before →
             (message.now.body ≡ Body.End → ⊥) →
-            result ≡ passed (body_fault_of (loaded_of image.now) before message.now.head message.now.body) }
+            Checks (body_fault_of (loaded_of image.now) before message.now.head message.now.body) result found.new }
     {
-        self.harts[usize::from(message.head.hart)].check(image, &self.config, &self.early, message)
+        self.harts[usize::from(message.head.hart)].check(
+            image,
+            &self.config,
+            &self.early,
+            message,
+            step,
+            found,
+        )
     }
 
     /// What is first wrong with a message of a known hart.
-    fn check_body(&self, image: &Image, message: &Message) -> Result<(), Fault>
+    fn check_body(
+        &self,
+        image: &Image,
+        message: &Message,
+        step: &mut Step,
+        found: &mut Option<Fault>,
+    ) -> Result<(), Faulty>
         requires known { message.now.head.hart < 16 }
         requires fits { Fits message.now }
-        ensures { (before : List Message) → Stands (loaded_of image.now) self.now before →
-            result ≡ passed (body_fault_of (loaded_of image.now) before message.now.head message.now.body) }
+        ensures refused { OnErr result (IsSome found.new) }
+        ensures step { (before : List Message) → Stands (loaded_of image.now) self.now before →
+            OnOk result (IsStep (loaded_of image.now) before message.now.head message.now.body step.new) }
+        ensures fault { (before : List Message) → Stands (loaded_of image.now) self.now before →
+            Checks (body_fault_of (loaded_of image.now) before message.now.head message.now.body) result found.new }
     {
         match &message.body {
-            Body::End => self.check_end(),
-            _ => self.check_hart(image, message),
+            Body::End => self.check_last(found),
+            _ => self.check_hart(image, message, step, found),
         }
     }
 
     /// What is first wrong with message `number`, after those that were taken. `number` is 1 for the
     /// first message, and one more for each that was taken.
-    fn check(&self, image: &Image, number: u64, message: &Message) -> Result<(), Fault>
+    fn check(
+        &self,
+        image: &Image,
+        number: u64,
+        message: &Message,
+        step: &mut Step,
+        found: &mut Option<Fault>,
+    ) -> Result<(), Faulty>
         requires { Fits message.now }
         ensures known { OnOk result (message.now.head.hart < 16) }
+        ensures refused { OnErr result (IsSome found.new) }
+        ensures step { (before : List Message) → Stands (loaded_of image.now) self.now before →
+            OnOk result (IsStep (loaded_of image.now) before message.now.head message.now.body step.new) }
         ensures fault { (before : List Message) → Stands (loaded_of image.now) self.now before →
-            number ≡ number_after before → result ≡ passed (match_fault (loaded_of image.now) before message.now) }
+            number ≡ number_after before → Checks (match_fault (loaded_of image.now) before message.now)
+            result found.new }
     {
-        self.check_place(number, message)?;
-        self.check_body(image, message)
+        self.check_place(number, message, found)?;
+        self.check_body(image, message, step, found)
     }
 
     /// Takes the settings of an Open, and the time of the message.
@@ -201,16 +263,14 @@ impl Matching {
     }
 
     /// Takes message `number` into the table of its hart.
-    fn take_hart(&mut self, image: &Image, number: u64, message: &Message) -> Result<(), AllocError>
+    fn take_hart(&mut self, number: u64, message: &Message, step: &Step) -> Result<(), AllocError>
         requires known { message.now.head.hart < 16 }
         requires fits { Fits message.now }
         ensures kept { OnErr result (IsSame self.old self.new) }
-        ensures taken { OnOk result (TakesHart (loaded_of image.now) number message.now self.old self.new) }
+        ensures taken { OnOk result (TakesHart number message.now step.now self.old self.new) }
     {
-        let config = self.config;
-        let early = &self.early;
         match self.harts.get_mut(usize::from(message.head.hart)) {
-            Some(table) => table.take(image, &config, early, number, message),
+            Some(table) => table.take(number, message, step),
             None => Ok(()),
         }
     }
@@ -224,23 +284,18 @@ impl Matching {
     }
 
     /// Takes message `number` into the early Bypasses, or into the table of its hart.
-    fn take_report(
-        &mut self,
-        image: &Image,
-        number: u64,
-        message: &Message,
-    ) -> Result<(), AllocError>
+    fn take_report(&mut self, number: u64, message: &Message, step: &Step) -> Result<(), AllocError>
         requires known { message.now.head.hart < 16 }
         requires fits { Fits message.now }
         ensures kept { OnErr result (IsSame self.old self.new) }
-        ensures taken { OnOk result (TakesReport (loaded_of image.now) number message.now self.old self.new) }
+        ensures taken { OnOk result (TakesReport number message.now step.now self.old self.new) }
     {
         match &message.body {
             Body::Bypass(piece) if self.is_early(&message.head) => {
                 self.early.push(report_from(number, &message.head, piece))?;
                 Ok(())
             }
-            _ => self.take_hart(image, number, message),
+            _ => self.take_hart(number, message, step),
         }
     }
 
@@ -259,106 +314,86 @@ impl Matching {
     }
 
     /// Takes message `number`, which has no fault.
-    fn apply(&mut self, image: &Image, number: u64, message: &Message) -> Result<(), AllocError>
+    fn apply(&mut self, number: u64, message: &Message, step: &Step) -> Result<(), AllocError>
         requires known { message.now.head.hart < 16 }
         requires fits { Fits message.now }
         ensures kept { OnErr result (IsSame self.old self.new) }
-        ensures taken { OnOk result (Takes (loaded_of image.now) number message.now self.old self.new) }
+        ensures taken { OnOk result (Takes number message.now step.now self.old self.new) }
     {
-        self.take_report(image, number, message)?;
+        self.take_report(number, message, step)?;
         self.drop_early(message);
         self.note(message);
         Ok(())
     }
 
-    /// What is first wrong with message `number`, None where nothing is.
-    pub fn first_fault(&self, image: &Image, number: u64, message: &Message) -> Option<Fault>
+    /// A copy, which takes memory.
+    fn copied(&self, alloc: Global) -> Result<Matching, AllocError>
+        ensures { IfOk result (λ made. IsSame self.now made) }
+    {
+        Ok(Matching {
+            known: self.known,
+            config: self.config,
+            time: self.time,
+            early: Vec::from_slice(alloc, self.early.as_slice())?,
+            harts: copies(alloc, self.harts.as_slice())?,
+        })
+    }
+
+    /// A copy, which takes memory and stands for the same messages.
+    pub fn copy(&self, alloc: Global) -> Result<Matching, AllocError>
+        ensures { (image : Loaded) (before : List Message) → Stands image self.now before →
+            IfOk result (λ made. Stands image made before) }
+    {
+        self.copied(alloc)
+    }
+
+    /// What is first wrong with message `number`, None where nothing is. Where that is a Retire, its step
+    /// then stands in the place that is lent.
+    pub fn first_fault(
+        &self,
+        image: &Image,
+        number: u64,
+        message: &Message,
+        step: &mut Step,
+    ) -> Option<Fault>
         requires { Fits message.now }
         ensures known { IfNone result (message.now.head.hart < 16) }
         ensures fault { (before : List Message) → Stands (loaded_of image.now) self.now before →
             number ≡ number_after before → result ≡ match_fault (loaded_of image.now) before message.now }
+        ensures step { (before : List Message) → Stands (loaded_of image.now) self.now before →
+            IfNone result (IsStep (loaded_of image.now) before message.now.head message.now.body step.new) }
     {
-        match self.check(image, number, message) {
+        let mut found = None;
+        match self.check(image, number, message, step, &mut found) {
             Ok(()) => None,
-            Err(fault) => Some(fault),
+            Err(_faulty) => found,
         }
     }
 
-    /// Takes message `number`, of a hart below 16, which has no fault. Where memory is refused nothing
-    /// has changed.
-    pub fn put(&mut self, image: &Image, number: u64, message: &Message) -> Result<(), AllocError>
+    /// Takes message `number`, of a hart below 16, which has no fault; a Retire by its step. Where memory is
+    /// refused nothing has changed.
+    pub fn put(&mut self, number: u64, message: &Message, step: &Step) -> Result<(), AllocError>
         requires known { message.now.head.hart < 16 }
         requires fits { Fits message.now }
-        ensures taken { (before : List Message) → Stands (loaded_of image.now) self.old before →
-            number ≡ number_after before → match_fault (loaded_of image.now) before message.now ≡ None →
-            OnOk result (Stands (loaded_of image.now) self.new (message.now ∷ before)) }
-        ensures kept { (before : List Message) → Stands (loaded_of image.now) self.old before →
-            OnErr result (Stands (loaded_of image.now) self.new before) }
+        ensures taken { (image : Loaded) (before : List Message) → Stands image self.old before →
+            number ≡ number_after before → match_fault image before message.now ≡ None →
+            IsStep image before message.now.head message.now.body step.now →
+            OnOk result (Stands image self.new (message.now ∷ before)) }
+        ensures kept { (image : Loaded) (before : List Message) → Stands image self.old before →
+            OnErr result (Stands image self.new before) }
     {
-        self.apply(image, number, message)?;
+        self.apply(number, message, step)?;
         Ok(())
-    }
-
-    /// Takes message `number`, or says what is first wrong with it. After a fault, and where memory is
-    /// refused, nothing has changed.
-    pub fn take(
-        &mut self,
-        image: &Image,
-        number: u64,
-        message: &Message,
-    ) -> Result<Option<Fault>, AllocError>
-        requires { Fits message.now }
-        ensures known { IfOk result (λ fault. IfNone fault (message.now.head.hart < 16)) }
-        ensures fault { (before : List Message) → Stands (loaded_of image.now) self.old before →
-            number ≡ number_after before →
-            IfOk result (λ fault. fault ≡ match_fault (loaded_of image.now) before message.now) }
-        ensures told { (before : List Message) (f : Fault) → Stands (loaded_of image.now) self.old before →
-            number ≡ number_after before → match_fault (loaded_of image.now) before message.now ≡ Some f →
-            result ≡ Ok (Some f) }
-        ensures taken { (before : List Message) → Stands (loaded_of image.now) self.old before →
-            number ≡ number_after before →
-            IfOk result (λ fault. IfNone fault (Stands (loaded_of image.now) self.new (message.now ∷ before))) }
-        ensures refused { (before : List Message) → Stands (loaded_of image.now) self.old before →
-            IfOk result (λ fault. OnSome fault (Stands (loaded_of image.now) self.new before)) }
-        ensures kept { (before : List Message) → Stands (loaded_of image.now) self.old before →
-            OnErr result (Stands (loaded_of image.now) self.new before) }
-    {
-        match self.check(image, number, message) {
-            Ok(()) => {}
-            Err(fault) => return Ok(Some(fault)),
-        }
-        self.apply(image, number, message)?;
-        Ok(None)
     }
 }
 
 impl Matching {
     ghost use Rattle.std.specs.Prelude.{◌≡◌, ◌<◌, List, map, reverse};
-    ghost use Rattle.elf_image.specs.Images.{Loaded, loaded_of};
+    ghost use Rattle.elf_image.specs.Images.{Loaded};
     ghost use Rattle.msg_frames.specs.declared.message.Message.{Message};
-    ghost use Rattle.rv_step.specs.Plans.{plan_seen};
     ghost use Rattle.matching.specs.Reports as Reports;
-    ghost use Rattle.matching.specs.Runs.{plan_at, effect_at};
     ghost use Rattle.matching.specs.Stores.{retired_stores};
     ghost use Rattle.matching.specs.Tables.{Stands, tracked_at};
-
-    /// What the next instruction of a hart is to do.
-    pub fn plan(&self, image: &Image, hart: u8) -> Plan
-        requires { hart < 16 }
-        ensures { (before : List Message) → Stands (loaded_of image.now) self.now before →
-            plan_seen result ≡ plan_at (loaded_of image.now) before hart }
-    {
-        self.harts[usize::from(hart)].plan(image, &self.config)
-    }
-
-    /// What the instruction of a Retire does, as the model has it.
-    pub fn effect(&self, image: &Image, head: &Head, retire: &Retire) -> Effect
-        requires { head.now.hart < 16 }
-        ensures { (before : List Message) → Stands (loaded_of image.now) self.now before →
-            result ≡ effect_at (loaded_of image.now) before head.now retire.now }
-    {
-        self.harts[usize::from(head.hart)].effect(image, &self.config, &self.early, head, retire)
-    }
 
     /// The live Reads of a hart, in the order in which they came.
     pub fn live(&self, hart: u8) -> &[OpenReport]

@@ -5,7 +5,7 @@
 #![tactic(auto)]
 
 use elf_image::{Image, Ram};
-use matching::Matching;
+use matching::{Matching, Step};
 use msg_frames::{Message, decode};
 use std::alloc::{AllocError, Global};
 use std::io;
@@ -37,6 +37,7 @@ fn rejected(number: u64, offset: usize, message: &Message, fault: Fault) -> Verd
 /// The first fault in a stream, None where there is none.
 fn first_fault(alloc: Global, image: &Image, stream: &[u8]) -> Result<Option<Verdict>, AllocError> {
     let mut state = Matching::new(alloc, image)?;
+    let mut step = Step::new();
     let mut at: usize = 0;
     for number in 1..1000u64 {
         let end = at.wrapping_add(frame_size(stream, at));
@@ -46,10 +47,11 @@ fn first_fault(alloc: Global, image: &Image, stream: &[u8]) -> Result<Option<Ver
         let Ok(message) = decode(frame) else {
             return Ok(None);
         };
-        match state.take(image, number, &message)? {
+        match state.first_fault(image, number, &message, &mut step) {
             Some(fault) => return Ok(Some(rejected(number, at, &message, fault))),
             None => {}
         }
+        state.put(number, &message, &step)?;
         at = end;
     }
     Ok(None)

@@ -3,6 +3,7 @@ pub mod Merges
 pub mod Newest
 pub mod Room
 pub mod Sound
+pub mod Upward
 pub mod Equality
 pub mod Walks
 pub mod Writes

@@ -5,7 +5,8 @@ use Rattle.std.proofs.lemmas.List.{append-nil, append_assoc}
 use Rattle.merge_buffer.specs.declared.waiting.Part.{Part}
 use Rattle.merge_buffer.specs.declared.waiting.Waiting.{Waiting}
 use Rattle.merge_buffer.specs.declared.merging.Merged.{Merged}
-use Rattle.merge_buffer.specs.Parts.{line_of, latest_byte, byte_of, AllBelow, Falls, AllOn, IsWithinLine}
+use Rattle.msg_frames.specs.Pieces.{byte_in}
+use Rattle.merge_buffer.specs.Parts.{line_of, latest_byte, AllBelow, Falls, AllOn, IsWithinLine}
 use Rattle.tandem_base.specs.FirstFault.{◌or_else◌}
 use Rattle.merge_buffer.specs.Chains.{IsChain, IsChained, merged_byte}
 use Rattle.merge_buffer.proofs.Merges.{or_else_none, or_else_assoc}
@@ -104,14 +105,14 @@ module _ (at : ℕ → Option Waiting) (head here : Option ℕ) (line : ℕ) (me
     here_step = step_of at line here i w m.rest.parts m.rest.chain m.rest.falls m.rest.on e there
 
     pub merging_goes : (new : Merged) → ((k : ℕ) → k < 64 → merged_byte new k ≡ ◌or_else◌ (merged_byte merged k)
-        (byte_of w.part.piece (line * 64 + k))) → Merging at head w.before line new
+        (byte_in w.part.piece (line * 64 + k))) → Merging at head w.before line new
     merging_goes new add =
         let s = here_step in
         record {
           rest = record { parts = s.tail; chain = s.chain; falls = s.falls; on = s.on };
           same = λ full f k l.
               ap (λ (o : Option ℕ). ◌or_else◌ o (latest_byte s.tail (line * 64 + k))) (add k l)
-              ∙ or_else_assoc (merged_byte merged k) (byte_of w.part.piece (line * 64 + k))
+              ∙ or_else_assoc (merged_byte merged k) (byte_in w.part.piece (line * 64 + k))
               (latest_byte s.tail (line * 64 + k))
               ∙ ap (λ (ps : List Part). ◌or_else◌ (merged_byte merged k) (latest_byte ps (line * 64 + k))) (sym s.is)
               ∙ m.same full f k l;

@@ -11,7 +11,8 @@ use Rattle.merge_buffer.specs.declared.merging.Merged.{Merged}
 use Rattle.merge_buffer.specs.declared.merging.Difference.{Difference}
 use Rattle.merge_buffer.specs.declared.waiting.Part.{Part}
 use Rattle.merge_buffer.specs.declared.waiting.Waiting.{Waiting}
-use Rattle.merge_buffer.specs.Parts.{latest_byte, reported_byte, SameByte, Matches, DiffersAt}
+use Rattle.msg_frames.specs.Pieces.{byte_written}
+use Rattle.merge_buffer.specs.Parts.{latest_byte, SameByte, Matches, DiffersAt}
 use Rattle.merge_buffer.specs.Chains.{chain_of, merged_byte, IsFirstDifference}
 use Rattle.merge_buffer.specs.Buffers.{list_at, lines_of}
 use Rattle.merge_buffer.proofs.Equality.{same_line, other_line}
@@ -40,7 +41,7 @@ module _ (ps : List Part) (merged : Merged) (write : LineWrite) (line : ℕ) (at
   byte_is : (k : ℕ) → k < 64 → merged_byte merged k ≡ latest_byte ps (write.line + k)
   byte_is k l = are k l ∙ ap (λ (x : ℕ). latest_byte ps (x + k)) at
 
-  pub matches : ((k : ℕ) → k < 64 → merged_byte merged k ≡ reported_byte write (write.line + k)) → Matches ps write
+  pub matches : ((k : ℕ) → k < 64 → merged_byte merged k ≡ byte_written write (write.line + k)) → Matches ps write
   matches same x i =
       let low : write.line ≤ x = grind (arith, nat_tests) in
       let high : x < write.line + 64 = grind (arith, nat_tests) in
@@ -52,7 +53,7 @@ module _ (ps : List Part) (merged : Merged) (write : LineWrite) (line : ℕ) (at
   differs d f = record {
     inside = ap (is_among write.line 64) f.at ∙ among f.k f.inside;
     waits = ap (latest_byte ps) f.at ∙ sym (byte_is f.k f.inside) ∙ f.want;
-    reported = ap (reported_byte write) f.at ∙ f.got;
+    reported = ap (byte_written write) f.at ∙ f.got;
     differ = f.differ;
     lowest = λ x low high. (
         let is : write.line + (x - write.line) ≡ x = omega arith in

@@ -4,8 +4,8 @@ use Rattle.slab.specs.Slab.{Slab, get}
 use Rattle.merge_buffer.specs.declared.merging.Difference.{Difference}
 use Rattle.merge_buffer.specs.declared.waiting.Part.{Part}
 use Rattle.merge_buffer.specs.declared.waiting.Waiting.{Waiting}
-use Rattle.merge_buffer.specs.declared.lines.Took.{Took}
-use Rattle.merge_buffer.specs.declared.lines.Took.TheVariants.{Yes, Full}
+use Rattle.tandem_base.specs.declared.room.Took.{Took}
+use Rattle.tandem_base.specs.declared.room.Took.TheVariants.{Yes, Full}
 use Rattle.merge_buffer.specs.declared.lines.Drain.{Drain}
 use Rattle.merge_buffer.specs.declared.lines.Drain.TheVariants.{Parts, Mismatch}
 use Rattle.merge_buffer.specs.Chains.{chain_of}

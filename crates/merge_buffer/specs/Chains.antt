@@ -9,7 +9,8 @@ use Rattle.merge_buffer.specs.declared.waiting.Waiting.{Waiting}
 use Rattle.msg_frames.specs.declared.message.LineWrite.{LineWrite}
 use Rattle.merge_buffer.specs.declared.merging.Difference.{Difference}
 use Rattle.merge_buffer.specs.declared.merging.Merged.{Merged}
-use Rattle.merge_buffer.specs.Parts.{Falls, AllOn, reported_byte}
+use Rattle.msg_frames.specs.Pieces.{byte_written}
+use Rattle.merge_buffer.specs.Parts.{Falls, AllOn}
 
 -- from the entry at `head` the links lead through these Inserts, and end
 abbrev pub IsChain : (ℕ → Option Waiting) → Option ℕ → List Part → Type 0
@@ -48,6 +49,6 @@ pub record IsFirstDifference (merged : Merged) (write : LineWrite) (d : Differen
   pub inside : k < 64
   pub at : d.at ≡ write.line + k
   pub want : merged_byte merged k ≡ d.want
-  pub got : reported_byte write (write.line + k) ≡ d.got
+  pub got : byte_written write (write.line + k) ≡ d.got
   pub differ : d.want ≢ d.got
-  pub lowest : (j : ℕ) → j < k → merged_byte merged j ≡ reported_byte write (write.line + j)
+  pub lowest : (j : ℕ) → j < k → merged_byte merged j ≡ byte_written write (write.line + j)

@@ -1,12 +1,12 @@
 -- Inserts that wait, the newest first.
-use Rattle.std.specs.Prelude.{ℕ, ◌≡◌, ◌≢◌, ◌+◌, ◌-◌, ◌/◌, ◌%◌, ◌<◌, ◌≤◌, ◌==◌, true, List, [], ◌∷◌}
-use Rattle.std.specs.Prelude.{length, Option, None, Some, is_some, slice_index, if◌then◌else◌}
+use Rattle.std.specs.Prelude.{ℕ, ◌≡◌, ◌≢◌, ◌+◌, ◌/◌, ◌%◌, ◌<◌, ◌≤◌, ◌==◌, true, List, [], ◌∷◌}
+use Rattle.std.specs.Prelude.{length, Option, None, is_some, if◌then◌else◌}
 use Rattle.std.specs.List.{Contains}
 use Rattle.tandem_base.specs.Extents.{is_among}
 use Rattle.tandem_base.specs.FirstFault.{◌or_else◌}
 use Rattle.msg_frames.specs.declared.message.Piece.{Piece}
 use Rattle.msg_frames.specs.declared.message.LineWrite.{LineWrite}
-use Rattle.std.specs.Int.{bit_at}
+use Rattle.msg_frames.specs.Pieces.{byte_in, byte_written}
 use Rattle.merge_buffer.specs.declared.merging.Difference.{Difference}
 use Rattle.merge_buffer.specs.declared.waiting.Part.{Part}
 
@@ -14,20 +14,10 @@ use Rattle.merge_buffer.specs.declared.waiting.Part.{Part}
 abbrev pub line_of : Part → ℕ
 line_of p = p.piece.addr / 64
 
--- the byte of a piece at x
-abbrev pub byte_of : Piece → ℕ → Option ℕ
-byte_of piece x =
-    if is_among piece.addr (length piece.bytes) x then Some (slice_index piece.bytes (x - piece.addr)) else None
-
 -- the byte at x of the newest of them that has one there
 abbrev pub latest_byte : List Part → ℕ → Option ℕ
 latest_byte [] x = None
-latest_byte (p ∷ ps) x = byte_of p.piece x or_else latest_byte ps x
-
--- the byte of a Write at x of its line
-abbrev pub reported_byte : LineWrite → ℕ → Option ℕ
-reported_byte write x =
-    if bit_at write.mask (x - write.line) == 1 then Some (slice_index write.bytes (x - write.line)) else None
+latest_byte (p ∷ ps) x = byte_in p.piece x or_else latest_byte ps x
 
 -- all of them have numbers below this one
 abbrev pub AllBelow : ℕ → List Part → Type 0
@@ -50,7 +40,7 @@ AllOn line (p ∷ ps) = (line_of p ≡ line) × IsWithinLine p.piece × AllOn li
 
 -- the byte that waits at x, and the one that is reported there, are the same
 abbrev pub SameByte : List Part → LineWrite → ℕ → Type 0
-SameByte ps write x = latest_byte ps x ≡ reported_byte write x
+SameByte ps write x = latest_byte ps x ≡ byte_written write x
 
 -- they are the same at each address of the line
 abbrev pub Matches : List Part → LineWrite → Type 0
@@ -60,7 +50,7 @@ Matches ps write = (x : ℕ) → is_among write.line 64 x ≡ true → SameByte 
 pub record DiffersAt (ps : List Part) (write : LineWrite) (d : Difference) : Type 0 where
   pub inside : is_among write.line 64 d.at ≡ true
   pub waits : latest_byte ps d.at ≡ d.want
-  pub reported : reported_byte write d.at ≡ d.got
+  pub reported : byte_written write d.at ≡ d.got
   pub differ : d.want ≢ d.got
   pub lowest : (x : ℕ) → write.line ≤ x → x < d.at → SameByte ps write x
 
@@ -75,5 +65,5 @@ without_line written line ps = if line == written then [] else ps
 -- p is one of them and has a byte at x, and no newer one has one there
 pub record IsNewestAt (ps : List Part) (x : ℕ) (p : Part) : Type 0 where
   pub among : Contains ps p
-  pub there : is_some (byte_of p.piece x) ≡ true
-  pub newest : (q : Part) → Contains ps q → is_some (byte_of q.piece x) ≡ true → q.number ≤ p.number
+  pub there : is_some (byte_in p.piece x) ≡ true
+  pub newest : (q : Part) → Contains ps q → is_some (byte_in q.piece x) ≡ true → q.number ≤ p.number

@@ -8,7 +8,7 @@ mod merging;
 mod waiting;
 
 pub use laws::merging_gives_the_newest_byte;
-pub use lines::{Drain, Lines, Took};
+pub use lines::{Drain, Lines};
 pub use merging::Difference;
 pub use waiting::Part;
 

@@ -8,15 +8,7 @@ use msg_frames::{LineWrite, Piece};
 use slab::Slab;
 use std::alloc::{AllocError, Global};
 use std::marker::Model;
-
-/// Whether a table had room.
-#[derive(Clone, Copy, Debug, PartialEq, Eq)]
-pub enum Took {
-    /// It had.
-    Yes,
-    /// It holds as many as it has room for, this many.
-    Full(u32),
-}
+use tandem_base::Took;
 
 /// What a Write does to the Inserts of its line.
 #[derive(Clone, Copy, Debug, PartialEq, Eq)]
@@ -85,7 +77,9 @@ impl Lines {
     /// An Insert, where there is room for one more. It has to lie within a line and to have a number
     /// above those that wait on that line.
     pub fn insert(&mut self, tag: u64, piece: &Piece, number: u32) -> Took
+        // An Insert that crosses a line is refused as a bad range.
         requires within { IsWithinLine piece.now }
+        // Messages are numbered upward, and no Insert waits before its message.
         requires newer { AllBelow number (waiting_on self.old (piece.now.addr / 64)) }
         ensures took { result ≡ took self.old }
         ensures waits { (line : ℕ) → waiting_on self.new line
@@ -110,6 +104,7 @@ impl Lines {
     /// A Write: drains the Inserts that wait on its line, where it has the bytes that they merge to.
     /// Otherwise nothing changes.
     pub fn write(&mut self, write: &LineWrite) -> Drain
+        // The form of a Write has it.
         requires line { write.now.line % 64 ≡ 0 }
         ensures matches { IfParts result (λ n. Matches (waiting_on self.old (write.now.line / 64)) write.now) }
         ensures waits { IfParts result (λ n. (line : ℕ) →

@@ -3,7 +3,8 @@
 ghost use Rattle.std.specs.Prelude.{◌≡◌, ◌+◌, ◌*◌, ◌/◌, ◌<◌, ◌≤◌, ◌==◌, ℕ, length, None};
 ghost use Rattle.std.specs.Int.{bit_at};
 ghost use Rattle.std.specs.Prelude.{◌%◌, IfSome, IfNone};
-ghost use Rattle.merge_buffer.specs.Parts.{IsWithinLine, byte_of, reported_byte};
+ghost use Rattle.msg_frames.specs.Pieces.{byte_in, byte_written};
+ghost use Rattle.merge_buffer.specs.Parts.{IsWithinLine};
 ghost use Rattle.tandem_base.specs.FirstFault.{◌or_else◌};
 ghost use Rattle.merge_buffer.specs.Chains.{merged_byte, IsFirstDifference};
 
@@ -26,7 +27,8 @@ pub fn is_set(mask: u64, k: u8) -> bool
 
 impl Merged {
     ghost use Rattle.std.specs.Prelude.{◌≡◌, ◌≢◌, ◌+◌, ◌*◌, ◌/◌, ◌<◌, ◌≤◌, ◌==◌, ℕ, length, None, Some, if◌then◌else◌};
-    ghost use Rattle.merge_buffer.specs.Parts.{IsWithinLine, byte_of};
+    ghost use Rattle.msg_frames.specs.Pieces.{byte_in};
+    ghost use Rattle.merge_buffer.specs.Parts.{IsWithinLine};
     ghost use Rattle.tandem_base.specs.FirstFault.{◌or_else◌};
     ghost use Rattle.merge_buffer.specs.Chains.{merged_byte};
 
@@ -70,7 +72,7 @@ impl Merged {
         requires within { IsWithinLine piece.now }
         requires line { piece.now.addr / 64 ≡ line }
         ensures { (k : ℕ) → k < 64 →
-            merged_byte self.new k ≡ merged_byte self.old k or_else byte_of piece.now (line * 64 + k) }
+            merged_byte self.new k ≡ merged_byte self.old k or_else byte_in piece.now (line * 64 + k) }
     {
         let first = (piece.addr % 64) as u8;
         for k in 0..piece.bytes.len() {
@@ -92,7 +94,7 @@ pub struct Difference {
 pub fn first_difference(merged: &Merged, write: &LineWrite) -> Option<Difference>
     requires { write.now.line % 64 ≡ 0 }
     ensures none { IfNone result ((k : ℕ) → k < 64 → merged_byte merged.now k
-        ≡ reported_byte write.now (write.now.line + k)) }
+        ≡ byte_written write.now (write.now.line + k)) }
     ensures some { IfSome result (λ d. IsFirstDifference merged.now write.now d) }
 {
     if merged.mask == write.mask && merged.bytes == write.bytes {
@@ -100,7 +102,7 @@ pub fn first_difference(merged: &Merged, write: &LineWrite) -> Option<Difference
     }
     for k in 0..64 {
         let want = merged.byte(k);
-        let got = reported(write, k);
+        let got = write.byte(k);
         if want != got {
             return Some(Difference {
                 at: write.line + u64::from(k),
@@ -110,16 +112,4 @@ pub fn first_difference(merged: &Merged, write: &LineWrite) -> Option<Difference
         }
     }
     None
-}
-
-/// Byte `k` of a Write, None where it isn't in the mask.
-fn reported(write: &LineWrite, k: u8) -> Option<u8>
-    requires { k < 64 }
-    ensures { result ≡ reported_byte write.now (write.now.line + k) }
-{
-    if is_set(write.mask, k) {
-        Some(write.bytes[k as usize])
-    } else {
-        None
-    }
 }

@@ -4,11 +4,11 @@ ghost use Rattle.std.specs.Prelude.{◌≡◌, ◌+◌, ◌%◌, ℕ, IfOk};
 ghost use Rattle.merge_buffer.specs.Parts.{AllBelow};
 ghost use Rattle.merge_buffer.specs.Buffers.{waiting_on};
 
-use crate::{Difference, Drain, Lines, Took};
+use crate::{Difference, Drain, Lines};
 use msg_frames::{LineWrite, Piece};
 use std::alloc::{AllocError, Global};
 use std::test::Fail;
-use tandem_base::Bytes8;
+use tandem_base::{Bytes8, Took};
 
 /// A buffer that takes Inserts from message 1 on.
 fn empty(alloc: Global, capacity: u32) -> Result<Lines, AllocError>

@@ -1,5 +1,6 @@
 pub mod Kinds
 pub mod Frames
+pub mod Pieces
 pub mod Reading
 pub mod Cut
 pub mod Taking

@@ -51,7 +51,7 @@ impl CsrList {
     }
 
     /// Takes all of them out.
-    pub(crate) fn clear(&mut self)
+    pub fn clear(&mut self)
         ensures { self.new ≡ [] }
     {
         self.items.clear();

@@ -9,6 +9,7 @@ mod kinds;
 mod laws;
 mod list;
 mod message;
+mod pieces;
 mod reading;
 mod rules;
 mod sizes;

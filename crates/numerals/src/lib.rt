@@ -5,7 +5,7 @@
 mod putting;
 mod reading;
 
-pub use putting::{put_decimal, put_hexadecimal};
+pub use putting::{put_decimal, put_decimal_or_dash, put_hexadecimal};
 pub use reading::{read_decimal, read_hexadecimal};
 
 #[cfg(test)]

@@ -2,7 +2,7 @@
 
 ghost use Rattle.std.specs.Prelude.{◌≡◌, ◌+◌, ◌-◌, ◌<◌, ◌≤◌, false, length, drop};
 ghost use Rattle.std.specs.Fmt.{digit_glyph, digits};
-ghost use Rattle.numerals.specs.Numerals.{hexadecimal};
+ghost use Rattle.numerals.specs.Numerals.{decimal_or_dash, hexadecimal};
 ghost use Rattle.tandem_base.specs.Puts.{Puts};
 
 use itoa::{Buffer, Integer};
@@ -16,6 +16,18 @@ pub fn put_decimal<I: Integer>(out: &mut [u8], at: usize, n: I) -> usize
 {
     let mut buffer = Buffer::new();
     put(out, at, buffer.format(n).as_bytes())
+}
+
+/// Puts a number of one byte in decimal, or `-` for none.
+pub fn put_decimal_or_dash(out: &mut [u8], at: usize, number: Option<u8>) -> usize
+    requires { at + 3 ≤ length out.old }
+    ensures puts { Puts at out.old result out.new (decimal_or_dash number) }
+    ensures bound { result ≤ at + 3 }
+{
+    match number {
+        None => put(out, at, b"-"),
+        Some(number) => put_decimal(out, at, number),
+    }
 }
 
 /// Puts the number in hexadecimal.

@@ -21,8 +21,10 @@ use Rattle.matching.specs.PartFaults.{poke_fault_of, late_fault_of, range_fault_
 use Rattle.matching.specs.PartFaults.{is_within}
 use Rattle.matching.specs.PartFaults.{is_again, is_known, unknown_fault_of, data_fault_in, data_fault_of, is_aligned}
 use Rattle.matching.specs.PartFaults.{is_whole, torn_store_fault_of, part_fault_in, fate_at, second_bypass_fault}
-use Rattle.matching.specs.PartFaults.{byte_waiting, byte_written, merge_fault_in, first_unmerged, merge_fault_of}
-use Rattle.matching.specs.Pieces.{has, byte_in, first_other}
+use Rattle.msg_frames.specs.Pieces.{byte_written}
+use Rattle.matching.specs.PartFaults.{byte_waiting, merge_fault_in, first_unmerged, merge_fault_of}
+use Rattle.msg_frames.specs.Pieces.{has, byte_in}
+use Rattle.matching.specs.Pieces.{first_other}
 use Rattle.matching.specs.Runs.{bypass_at}
 use Rattle.matching.specs.Searches.{first_below}
 use Rattle.matching.specs.Settings.{is_open, harts_of}

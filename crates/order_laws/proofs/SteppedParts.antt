@@ -21,7 +21,8 @@ use Rattle.matching.specs.declared.run.Pair.{Pair}
 use Rattle.matching.specs.Compares.{pc_fault_of, word_fault_of, trap_fault_of, next_fault_of, meets, rd_fault_of}
 use Rattle.matching.specs.Compares.{same_csr, csr_entry_fault_of, csr_difference, csr_fault_of, tag_fault_of}
 use Rattle.matching.specs.Matching.{retire_fault_of}
-use Rattle.matching.specs.Pieces.{byte_in, first_other}
+use Rattle.msg_frames.specs.Pieces.{byte_in}
+use Rattle.matching.specs.Pieces.{first_other}
 use Rattle.matching.specs.Reports.{live, early, counting}
 use Rattle.matching.specs.RetireFaults.{is_stray, lower, lowest_stray, stray_fault_of, is_missing, is_torn, same_read}
 use Rattle.matching.specs.RetireFaults.{missing_fault_in, torn_fault_in, reads_missing, reads_torn, missing_fault_of}

@@ -42,7 +42,7 @@ use Rattle.trace_model.proofs.Instructions.{plain_quiet, counter_quiet, store_ki
 use Rattle.trace_model.proofs.Plans.{IsPlanned, planned}
 use Rattle.order_laws.specs.FaultLaws.{OthersBreakNothing}
 use Rattle.order_laws.specs.Prefixes.{IsLegal}
-use Rattle.order_laws.specs.Retired.{may_break_retiring, may_break}
+use Rattle.trace_model.specs.Breaking.{may_break_retiring, may_break}
 use Rattle.order_laws.proofs.Faultless.{faultless_legal, legal_order}
 use Rattle.order_laws.proofs.Fine.{first_legal, kinded, same, grown}
 

@@ -19,7 +19,8 @@ use Rattle.matching.specs.Settings.{number_after}
 use Rattle.trace_model.specs.Traces.{trace_of}
 use Rattle.order_laws.specs.Faults.{last_of, order_fault, IsFaultless}
 use Rattle.order_laws.specs.Prefixes.{IsLegal}
-use Rattle.order_laws.specs.Retired.{retired_tag, performs_stores, may_break}
+use Rattle.trace_model.specs.Breaking.{may_break}
+use Rattle.order_laws.specs.Retired.{retired_tag, performs_stores}
 
 -- the fault of memory order at a message that matches is the one that the memory model names in the trace then
 abbrev pub OrderFaultIsLast : Type 0

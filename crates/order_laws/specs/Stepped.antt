@@ -17,7 +17,7 @@ use Rattle.matching.specs.declared.stores.Stored.{Stored}
 use Rattle.matching.specs.Compares.{meets}
 use Rattle.matching.specs.Fates.{is_done}
 use Rattle.matching.specs.PartFaults.{fate_at}
-use Rattle.matching.specs.Pieces.{byte_in}
+use Rattle.msg_frames.specs.Pieces.{byte_in}
 use Rattle.matching.specs.RetireFaults.{rd_want_of, is_in_pair}
 use Rattle.matching.specs.Runs.{run_of, plan_at, doing_at, effect_at, bypass_at}
 use Rattle.matching.specs.Stores.{retired_stores, store_under}

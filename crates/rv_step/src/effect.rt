@@ -43,3 +43,21 @@ pub struct Effect {
     /// The cause of its trap.
     pub trap: Option<u8>,
 }
+
+impl Effect {
+    ghost use Rattle.std.specs.Prelude.{◌≡◌, None};
+    ghost use Rattle.rv_step.specs.Steps.{reports};
+
+    /// A place for an effect: that of an instruction that goes on at 0 and does nothing else.
+    pub fn new() -> Effect
+        ensures { result ≡ reports 0 None }
+    {
+        Effect {
+            next: 0,
+            rd: None,
+            csrs: CsrList::new(),
+            store: None,
+            trap: None,
+        }
+    }
+}

@@ -1,6 +1,6 @@
 //! The step of a hart: what the instruction at its pc is to do, and what it does.
 //!
-//! `Hart::plan` fetches, decodes and finds the trap or the access. `Hart::effect` works out what the
+//! `Hart::plan` fetches, decodes and finds the trap or the access. `Hart::effect_into` works out what the
 //! plan reports, with the values that come from outside; `Hart::commit` makes the hart what a report
 //! says; and `Hart::finish` does both.
 #![tactic(auto)]

@@ -1,17 +1,15 @@
 -- The first fault of a message, from what matching and the newest step say.
-use Rattle.std.proofs.Common.{◌≡◌, false, List, ◌∷◌, ◌++◌, Option, Some, None, Result, Ok, Err, IfOk}
-use Rattle.std.proofs.Common.{IfNone}
+use Rattle.std.proofs.Common.{◌≡◌, Bool, true, false, List, ◌∷◌, Option, Some, None, Result, Ok, Err, IfOk}
 use Rattle.std.proofs.Common.{sym, ap, ◌∙◌}
 use Rattle.msg_frames.specs.declared.message.Message.{Message}
 use Rattle.elf_image.specs.Images.{Loaded}
 use Rattle.tandem_base.specs.FirstFault.{◌or_else◌}
 use Rattle.verdict_report.specs.declared.fault.Fault.{Fault}
 use Rattle.matching.specs.Matching.{IsClean, match_fault}
-use Rattle.trace_model.specs.KeptOps.{Follows}
+use Rattle.trace_model.specs.Tracers.{Follows}
 use Rattle.trace_model.specs.declared.tracer.Tracer.{Tracer}
 use Rattle.order_laws.specs.Faults.{IsFaultless, order_fault, message_fault}
-use Rattle.order_laws.specs.Retired.{may_break}
-use Rattle.order_laws.proofs.Legality.{clean_before}
+use Rattle.trace_model.specs.Breaking.{may_break}
 use Rattle.order_laws.proofs.Unbroken.{others_break_nothing}
 
 module _ (image : Loaded) (before : List Message) (m : Message) where
@@ -40,15 +38,12 @@ pub if_ok_from : {A E : Type 0} (P : A → Type 0) (r : Result A E) → ((a : A)
 if_ok_from P (Ok a) p = p a
 if_ok_from P (Err e) p = tt
 
--- in a clean list no message has a fault
-pub no_match_fault : (image : Loaded) (later before : List Message) (m : Message) (f : Fault)
-    → IsClean image (later ++ m ∷ before) → match_fault image before m ≡ Some f → ⊥
-no_match_fault image later before m f c e =
-    let clean = clean_before image later (m ∷ before) c in
-    let none : None ≡ Some f = sym clean.2 ∙ e in
-    cc
-
--- what follows where there is none, from what holds there
-pub if_none_then : {A P Q : Type 0} (o : Option A) → IfNone o P → (P → Q) → IfNone o Q
-if_none_then None p f = f p
-if_none_then (Some x) p f = tt
+-- a message that was taken has no fault, where it can't break the order
+pub unbroken_where : {E : Type 0} (image : Loaded) (before : List Message) (m : Message) (t : Tracer)
+    (r : Result Bool E)
+    → IsFaultless image before → IfOk r (λ taken. taken ≡ true → may_break image before m.head m.body ≡ false)
+    → IfOk r (λ taken. taken ≡ true → Follows image t (m ∷ before))
+    → IfOk r (λ taken. taken ≡ true → message_fault image before m ≡ None)
+unbroken_where image before m t (Ok b) faultless quiet follows =
+    λ e. sym (unbroken image before m t faultless (follows e) (quiet e))
+unbroken_where image before m t (Err x) faultless quiet follows = tt

@@ -4,7 +4,6 @@ pub mod Examined
 pub mod FrameLaws
 pub mod Headline
 pub mod JudgeLaws
-pub mod Kept
 pub mod OtherFaults
 pub mod Progress
 pub mod StandsLaws

@@ -1,9 +1,8 @@
 -- What a core stands for after one message more.
-use Rattle.std.proofs.Common.{◌≡◌, ℕ, ◌+◌, length, List, [], ◌∷◌, ◌++◌, Bool, true, false, nat_lt}
+use Rattle.std.proofs.Common.{◌≡◌, ℕ, ◌+◌, length, List, ◌∷◌, Bool, true, false, nat_lt}
 use Rattle.std.proofs.Common.{Option}
 use Rattle.std.proofs.Common.{None, Some, refl, sym, ap, subst, ◌∙◌, arith}
-use Rattle.std.specs.Prelude.{if◌then◌else◌, option_map, IfNone, IfSome}
-use Rattle.std.proofs.lemmas.List.{reverse-append}
+use Rattle.std.specs.Prelude.{if◌then◌else◌, option_map, IfNone}
 use Rattle.msg_frames.specs.declared.message.Body.{Body}
 use Rattle.msg_frames.specs.declared.message.Body.TheVariants as body
 use Rattle.msg_frames.specs.declared.message.Message.{Message}
@@ -15,9 +14,7 @@ use Rattle.verdict_report.specs.declared.verdict.Limit.TheVariants as limit
 use Rattle.verdict_report.specs.declared.verdict.Verdict.{Verdict}
 use Rattle.verdict_report.specs.declared.verdict.Verdict.TheVariants as verdict
 use Rattle.tandem_base.specs.FirstFault.{◌or_else◌}
-use Rattle.trace_model.specs.KeptOps.{Follows}
 use Rattle.trace_model.specs.declared.tracer.Tracer.{Tracer}
-use Rattle.std.specs.Global.{Box}
 use Rattle.order_laws.specs.Decisions.{Decision, Offends, Passes, Accepts, operations_of}
 use Rattle.order_laws.specs.Faults.{message_fault}
 use Rattle.order_laws.specs.Limits.{Overrun, over_bound}
@@ -25,7 +22,7 @@ use Rattle.tandem_core.specs.declared.core_state.Core.{Core}
 use Rattle.tandem_core.specs.declared.limits.Limits.{Limits}
 use Rattle.tandem_core.specs.Runs.{frame_size, is_retire, offset_of, retired_of}
 use Rattle.tandem_core.specs.Judgements.{verdict_of, verdict_at}
-use Rattle.tandem_core.specs.Cores.{CoreStands, HasCounted, LosesTables, TakesTables, KeepsCounts, Counts, verdict_by}
+use Rattle.tandem_core.specs.Cores.{CoreStands, Counts, HasCounted, HasTables, IsUnchanged, KeepsCounts, verdict_by}
 
 -- an End is no Retire
 end_retires_nothing : (b : Body) → is_end b ≡ true → is_retire b ≡ false
@@ -122,80 +119,64 @@ pub counted : {image : Loaded} {limits : Limits} {core : Core} {before : List Me
     → CoreStands image limits core before → HasCounted core before
 counted stands = record { count = stands.count; offset = stands.offset }
 
--- a core that loses its tables keeps its count
-pub counted_still : (old new : Core) (before : List Message) → LosesTables old new → HasCounted old before
+-- a core of which nothing changed has the same count
+pub counted_still : (old new : Core) (before : List Message) → IsUnchanged old new → HasCounted old before
     → HasCounted new before
-counted_still old new before l h = record { count = l.count ∙ h.count; offset = l.offset ∙ h.offset }
+counted_still old new before u h = record { count = u.count ∙ h.count; offset = u.offset ∙ h.offset }
 
 -- and stands for the same messages
-pub stands_still : (image : Loaded) (limits : Limits) (old new : Core) (before : List Message) → LosesTables old new
+pub stands_still : (image : Loaded) (limits : Limits) (old new : Core) (before : List Message) → IsUnchanged old new
     → CoreStands image limits old before → CoreStands image limits new before
-stands_still image limits old new before l s = record {
-  image_is = ap (λ i. loaded_of i.now) l.image ∙ s.image_is;
-  limits_is = l.limits ∙ s.limits_is;
-  going = l.verdict ∙ s.going;
+stands_still image limits old new before u s = record {
+  image_is = ap (λ i. loaded_of i.now) u.image ∙ s.image_is;
+  limits_is = u.limits ∙ s.limits_is;
+  going = u.verdict ∙ s.going;
   quiet = s.quiet;
   faultless = s.faultless;
-  kept = l.messages ∙ s.kept;
-  tables = subst (λ (o : Option (Box Tracer)). IfSome o (λ t. Follows image t.value before)) (sym l.tracer) tt;
-  count = l.count ∙ s.count;
-  offset = l.offset ∙ s.offset;
-  retired = l.retired ∙ s.retired;
+  tables = subst (λ (i : Loaded). HasTables i new.tracer before) s.image_is
+      (u.tables before (subst (λ (i : Loaded). HasTables i old.tracer before) (sym s.image_is) s.tables));
+  count = u.count ∙ s.count;
+  offset = u.offset ∙ s.offset;
+  retired = u.retired ∙ s.retired;
 }
+
+-- a message that ends with no verdict has no fault
+first_none : (f : Option Fault) (V : Decision → Verdict) (later : Option Decision)
+    → option_map V (option_map Offends f or_else later) ≡ None → f ≡ None
+first_none None V later e = refl
+first_none (Some f) V later e = absurd (cc)
+
+pub no_fault : (image : Loaded) (limits : Limits) (before : List Message) (m : Message)
+    → verdict_at image limits before m ≡ None → message_fault image before m ≡ None
+no_fault image limits before m e = first_none (message_fault image before m) (verdict_of image before m) _ e
 
 -- ---- one message more
 
--- the way of a message through a core: the tables are taken out, kept again with the message, and then the verdict and
--- the counts are set
-pub record Passes4 (old lost kept concluded new : Core) (m : Message) (t : Box Tracer) : Type 0 where
-  pub loses : LosesTables old lost
-  pub takes : TakesTables lost kept m t
-  pub keeps : KeepsCounts kept concluded
-  pub counts : Counts concluded new m
-
-module _ (image : Loaded) (limits : Limits) (old lost kept concluded new : Core) (before : List Message) (m : Message)
-    (t : Box Tracer) (way : Passes4 old lost kept concluded new m t) where
+module _ (old judged new : Core) (before : List Message) (m : Message) (keeps : KeepsCounts old judged)
+    (counts : Counts judged new m) where
   pub counted_on : HasCounted old before → HasCounted new (m ∷ before)
   counted_on h =
-      let c = way.counts.count ∙ ap (λ (n : ℕ). n + 1) (way.keeps.count ∙ way.takes.count ∙ way.loses.count ∙ h.count)
-      in record {
+      let c = counts.count ∙ ap (λ (n : ℕ). n + 1) (keeps.count ∙ h.count) in record {
         count = omega (arith, c);
-        offset = way.counts.offset ∙ ap (λ (n : ℕ). n + frame_size m)
-            (way.keeps.offset ∙ way.takes.offset ∙ way.loses.offset ∙ h.offset);
+        offset = counts.offset ∙ ap (λ (n : ℕ). n + frame_size m) (keeps.offset ∙ h.offset);
       }
 
-  -- before the verdict is set the counts are those of the older messages
-  pub counts_stand : CoreStands image limits old before → CountsStand limits kept before
-  counts_stand s = record {
-    limits_is = way.takes.limits ∙ way.loses.limits ∙ s.limits_is;
-    count = way.takes.count ∙ way.loses.count ∙ s.count;
-    offset = way.takes.offset ∙ way.loses.offset ∙ s.offset;
-    retired = way.takes.retired ∙ way.loses.retired ∙ s.retired;
-  }
-
   -- where no verdict ends with the message the core stands for it too
-  pub stands_on : CoreStands image limits old before → Fits m → Follows image t.value (m ∷ before)
-      → message_fault image before m ≡ None → new.verdict ≡ None → verdict_at image limits before m ≡ None
+  pub stands_on : (image : Loaded) (limits : Limits) → CoreStands image limits old before → Fits m
+      → HasTables image judged.tracer (m ∷ before) → judged.verdict ≡ None → verdict_at image limits before m ≡ None
       → CoreStands image limits new (m ∷ before)
-  stands_on s fits follows fine going quiet =
+  stands_on image limits s fits tables going quiet =
       let h = counted_on (counted s) in
-      let tracer : new.tracer ≡ Some t = way.counts.tracer ∙ way.keeps.tracer ∙ way.takes.tracer in
       record {
-        image_is = ap (λ i. loaded_of i.now) (way.counts.image ∙ way.keeps.image ∙ way.takes.image ∙ way.loses.image)
-            ∙ s.image_is;
-        limits_is = way.counts.limits ∙ way.keeps.limits ∙ way.takes.limits ∙ way.loses.limits ∙ s.limits_is;
-        going = going;
+        image_is = ap (λ i. loaded_of i.now) (counts.image ∙ keeps.image) ∙ s.image_is;
+        limits_is = counts.limits ∙ keeps.limits ∙ s.limits_is;
+        going = counts.verdict ∙ going;
         quiet = (quiet, s.quiet);
-        faultless = (s.faultless, fits, fine);
-        kept = way.counts.messages ∙ way.keeps.messages ∙ way.takes.messages
-            ∙ ap (λ (l : List Message). l ++ m ∷ []) (way.loses.messages ∙ s.kept)
-            ∙ sym (reverse-append (m ∷ []) before);
-        tables = subst (λ (o : Option (Box Tracer)). IfSome o (λ t. Follows image t.value (m ∷ before))) (sym tracer)
-            follows;
+        faultless = (s.faultless, fits, no_fault image limits before m quiet);
+        tables = subst (λ (o : Option Tracer). HasTables image o (m ∷ before)) (sym counts.tracer) tables;
         count = h.count;
         offset = h.offset;
-        retired = way.counts.retired ∙ ap (λ (n : ℕ). if is_retire m.body then n + 1 else n)
-            (way.keeps.retired ∙ way.takes.retired ∙ way.loses.retired ∙ s.retired);
+        retired = counts.retired ∙ ap (λ (n : ℕ). if is_retire m.body then n + 1 else n) (keeps.retired ∙ s.retired);
       }
 
 -- ---- cases
@@ -209,13 +190,3 @@ if_none_from (Some x) f = tt
 pub stands_here : {A P : Type 0} (o : Option A) → o ≡ None → IfNone o P → P
 stands_here None e p = p
 stands_here (Some x) e p = absurd (cc)
-
--- a message that ends with no verdict has no fault
-first_none : (f : Option Fault) (V : Decision → Verdict) (later : Option Decision)
-    → option_map V (option_map Offends f or_else later) ≡ None → f ≡ None
-first_none None V later e = refl
-first_none (Some f) V later e = absurd (cc)
-
-pub no_fault : (image : Loaded) (limits : Limits) (before : List Message) (m : Message)
-    → verdict_at image limits before m ≡ None → message_fault image before m ≡ None
-no_fault image limits before m e = first_none (message_fault image before m) (verdict_of image before m) _ e

@@ -1,7 +1,5 @@
 -- What a core stands for, and its answers.
-use Rattle.std.specs.Prelude.{ℕ, ◌≡◌, ◌+◌, nat_lt, Option, Some, None, IfSome, if◌then◌else◌, List, [], ◌∷◌, ◌++◌}
-use Rattle.std.specs.Prelude.{length, reverse}
-use Rattle.std.specs.Global.{Box}
+use Rattle.std.specs.Prelude.{ℕ, ◌≡◌, ◌+◌, nat_lt, Option, Some, None, if◌then◌else◌, List, [], length}
 use Rattle.msg_frames.specs.declared.message.Message.{Message}
 use Rattle.msg_frames.specs.Cut.{is_end}
 use Rattle.elf_image.specs.Images.{Loaded, loaded_of}
@@ -9,7 +7,7 @@ use Rattle.verdict_report.specs.declared.fault.Fault.{Fault}
 use Rattle.verdict_report.specs.declared.verdict.Limit.TheVariants as limit
 use Rattle.verdict_report.specs.declared.verdict.Verdict.{Verdict}
 use Rattle.verdict_report.specs.declared.verdict.Verdict.TheVariants as verdict
-use Rattle.trace_model.specs.KeptOps.{Follows}
+use Rattle.trace_model.specs.Tracers.{Follows}
 use Rattle.trace_model.specs.declared.tracer.Tracer.{Tracer}
 use Rattle.order_laws.specs.Faults.{IsFaultless}
 use Rattle.tandem_core.specs.declared.limits.Limits.{Limits}
@@ -36,16 +34,20 @@ IsGoing core = ended_with core ≡ None
 abbrev pub HasEnded : Core → Verdict → Type 0
 HasEnded core v = ended_with core ≡ Some v
 
--- The core has taken these messages, newest first, against this image and within these limits; it keeps them; none of
--- them has a fault, and none ended with a verdict. Where it has tables, they are those of the messages.
+-- the tables of a core are those of these messages; before the first message there may be none
+abbrev pub HasTables : Loaded → Option Tracer → List Message → Type 0
+HasTables image None before = before ≡ []
+HasTables image (Some t) before = Follows image t before
+
+-- The core has taken these messages, newest first, against this image and within these limits; it has their tables;
+-- none of them has a fault, and none ended with a verdict.
 pub record CoreStands (image : Loaded) (limits : Limits) (core : Core) (before : List Message) : Type 0 where
   pub image_is : loaded_of core.image.now ≡ image
   pub limits_is : core.limits ≡ limits
   pub going : IsGoing core
   pub quiet : IsQuiet image limits before
   pub faultless : IsFaultless image before
-  pub kept : core.messages ≡ reverse before
-  pub tables : IfSome core.tracer (λ t. Follows image t.value before)
+  pub tables : HasTables image core.tracer before
   pub count : core.count ≡ length before
   pub offset : core.offset ≡ offset_of before
   pub retired : core.retired ≡ retired_of before
@@ -59,33 +61,39 @@ fed_as (Some (verdict.Accept messages retired operations)) = fed.Done messages r
 
 -- ---- the parts of a message's way through the core
 
--- the core is as it was, but that it has no tables
-pub record LosesTables (old new : Core) : Type 0 where
+-- nothing of the core has changed that contracts see: its tables are those of the same messages, and all else is as it
+-- was
+pub record IsUnchanged (old new : Core) : Type 0 where
   pub image : new.image ≡ old.image
   pub limits : new.limits ≡ old.limits
-  pub messages : new.messages ≡ old.messages
-  pub tracer : new.tracer ≡ None
+  pub tables : (before : List Message) → HasTables (loaded_of old.image.now) old.tracer before
+      → HasTables (loaded_of old.image.now) new.tracer before
   pub count : new.count ≡ old.count
   pub offset : new.offset ≡ old.offset
   pub retired : new.retired ≡ old.retired
   pub verdict : new.verdict ≡ old.verdict
 
--- the core has one message more, and these tables
-pub record TakesTables (old new : Core) (m : Message) (t : Box Tracer) : Type 0 where
+-- the two cores differ at most in their tables and in the verdict
+pub record KeepsCounts (old new : Core) : Type 0 where
   pub image : new.image ≡ old.image
   pub limits : new.limits ≡ old.limits
-  pub messages : new.messages ≡ old.messages ++ m ∷ []
-  pub tracer : new.tracer ≡ Some t
+  pub count : new.count ≡ old.count
+  pub offset : new.offset ≡ old.offset
+  pub retired : new.retired ≡ old.retired
+
+-- the two cores differ at most in their tables
+pub record SetsTables (old new : Core) : Type 0 where
+  pub image : new.image ≡ old.image
+  pub limits : new.limits ≡ old.limits
   pub count : new.count ≡ old.count
   pub offset : new.offset ≡ old.offset
   pub retired : new.retired ≡ old.retired
   pub verdict : new.verdict ≡ old.verdict
 
 -- the two cores differ at most in the verdict
-pub record KeepsCounts (old new : Core) : Type 0 where
+pub record SetsVerdict (old new : Core) : Type 0 where
   pub image : new.image ≡ old.image
   pub limits : new.limits ≡ old.limits
-  pub messages : new.messages ≡ old.messages
   pub tracer : new.tracer ≡ old.tracer
   pub count : new.count ≡ old.count
   pub offset : new.offset ≡ old.offset
@@ -105,7 +113,6 @@ verdict_by core m None operations =
 pub record Counts (old new : Core) (m : Message) : Type 0 where
   pub image : new.image ≡ old.image
   pub limits : new.limits ≡ old.limits
-  pub messages : new.messages ≡ old.messages
   pub tracer : new.tracer ≡ old.tracer
   pub verdict : new.verdict ≡ old.verdict
   pub count : new.count ≡ old.count + 1

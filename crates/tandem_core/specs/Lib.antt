@@ -1,5 +1,4 @@
 pub mod Cores
-pub mod FitProps
 pub mod Headline
 pub mod Judgements
 pub mod Judging

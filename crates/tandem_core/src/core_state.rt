@@ -1,31 +1,27 @@
 //! The checker in the middle of a stream.
 
-ghost use Rattle.std.specs.Prelude.{◌≡◌, ◌+◌, ◌*◌, ◌≤◌, length};
-ghost use Rattle.std.specs.List.{All};
+ghost use Rattle.std.specs.Prelude.{◌≡◌, ◌+◌, ◌*◌, ◌≤◌};
 ghost use Rattle.std.specs.Option.{ForNone};
-ghost use Rattle.msg_frames.specs.Frames.{Fits};
 ghost use Rattle.tandem_core.specs.Limits.{ceilings};
-ghost use Rattle.tandem_core.specs.FitProps.{all_fit_prop};
 ghost use Rattle.tandem_core.specs.Runs.{frame_size};
 
-use super::examining::{examine, operations_at, tables_of};
+use super::examining::examine;
 use super::fed::Fed;
 use super::limits::Limits;
 use elf_image::Image;
-use msg_frames::{Body, FrameFault, Message, MessageList, size};
+use msg_frames::{Body, FrameFault, Message, size};
 use std::alloc::{AllocError, Global};
 use trace_model::Tracer;
 use verdict_report::{Fault, Limit, Report, Verdict};
 
-/// A checker in the middle of a stream. It keeps the messages, and the tables of what they say; where
-/// memory was refused it has no tables, and makes them anew from the messages.
+/// A checker in the middle of a stream. It keeps what the messages say, and not the messages. Before the
+/// first message it has no tables yet, since they take memory.
 #[derive(Debug, Drop)]
 pub struct Core<'a> {
     alloc: Global,
     image: &'a Image,
     limits: Limits,
-    messages: MessageList,
-    tracer: Option<Box<Tracer>>,
+    tracer: Option<Tracer>,
     count: u64,
     offset: u64,
     retired: u64,
@@ -35,7 +31,6 @@ pub struct Core<'a> {
     ghost going: { ForNone verdict (count ≤ limits.messages) },
     ghost measured: { offset ≤ 514 * count },
     ghost retirements: { retired ≤ count },
-    ghost fitting: { All Fits messages } by { all_fit_prop messages },
 }
 
 /// How many bytes the frame of a message takes.
@@ -48,20 +43,22 @@ fn frame_bytes(message: &Message) -> u64
 }
 
 impl<'a> Core<'a> {
-    ghost use Rattle.std.specs.Prelude.{◌≡◌, ◌≤◌, List, [], ◌∷◌, Ok, IfOk, OnOk, OnErr, IfNone, IfSome, length};
-    ghost use Rattle.std.specs.Prelude.{reverse};
+    ghost use Rattle.std.specs.Prelude.{◌≡◌, ◌+◌, ◌≤◌, List, [], ◌∷◌, Ok, IfOk, OnOk, OnErr, IfNone, Some, None};
+    ghost use Rattle.std.specs.Prelude.{length, true, false};
     ghost use Rattle.msg_frames.specs.declared.message.Message.{Message};
     ghost use Rattle.msg_frames.specs.Frames.{Fits};
     ghost use Rattle.elf_image.specs.Images.{Loaded, loaded_of};
     ghost use Rattle.verdict_report.specs.declared.verdict.Verdict.{Verdict};
     ghost use Rattle.tandem_core.specs.declared.limits.Limits.{Limits};
-    ghost use Rattle.matching.specs.Matching.{IsClean};
-    ghost use Rattle.trace_model.specs.KeptOps.{Follows};
+    ghost use Rattle.trace_model.specs.Tracers.{Follows};
     ghost use Rattle.tandem_core.specs.Limits.{HasCeilings};
     ghost use Rattle.tandem_core.specs.Runs.{offset_of};
     ghost use Rattle.tandem_core.specs.Judgements.{bad_frame_of, truncated_of, verdict_at};
     ghost use Rattle.tandem_core.specs.Cores.{CoreStands, HasCounted, HasEnded, IsGoing, fed_as, ended_with};
-    ghost use Rattle.tandem_core.specs.Cores.{KeepsCounts, verdict_by, Counts, LosesTables, TakesTables};
+    ghost use Rattle.tandem_core.specs.Cores.{Counts, HasTables, IsUnchanged, KeepsCounts};
+    ghost use Rattle.tandem_core.specs.Cores.{SetsTables, SetsVerdict, verdict_by};
+    ghost use Rattle.order_laws.specs.Decisions.{operations_of};
+    ghost use Rattle.order_laws.specs.Faults.{IsFaultless, message_fault};
 
     /// A checker of a stream against this image, before the first message.
     pub fn start(alloc: Global, image: &'a Image, limits: &Limits) -> Core<'a>
@@ -73,7 +70,6 @@ impl<'a> Core<'a> {
             alloc,
             image,
             limits: *limits,
-            messages: MessageList::new(alloc),
             tracer: None,
             count: 0,
             offset: 0,
@@ -129,55 +125,145 @@ impl<'a> Core<'a> {
         }
     }
 
-    /// The tables of the messages that are kept, which the core has no more then.
-    fn tables(&mut self) -> Result<Box<Tracer>, AllocError>
-        ensures follows { IsClean (loaded_of self.old.image.now) (reverse self.old.messages) →
-            IfSome self.old.tracer (λ t. Follows (loaded_of self.old.image.now) t.value (reverse self.old.messages)) →
-            IfOk result (λ t. Follows (loaded_of self.old.image.now) t.value (reverse self.old.messages)) }
-        ensures lost { LosesTables self.old self.new }
+    /// A copy of the tables; those before the first message where there are none yet.
+    fn tables(&self) -> Result<Tracer, AllocError>
+        ensures { (before : List Message) → HasTables (loaded_of self.now.image.now) self.now.tracer before →
+            IfOk result (λ t. Follows (loaded_of self.now.image.now) t before) }
     {
-        match self.tracer.take() {
-            Some(tracer) => Ok(tracer),
-            None => {
-                let tracer = tables_of(self.alloc, self.image, &self.messages)?;
-                Ok(Box::new(self.alloc, tracer)?)
-            }
+        match &self.tracer {
+            Some(tracer) => tracer.copy(self.alloc),
+            None => Tracer::new(self.alloc, self.image),
         }
     }
 
-    /// Sets the verdict, where a message that is fine or has a fault ends with one.
-    fn conclude(&mut self, message: &Message, found: &Option<Fault>, operations: u64)
+    /// Takes a message into the tables where it has no fault and can't break the order of memory, and
+    /// answers whether it did. Before the first message it doesn't.
+    fn take_unbreaking(&mut self, message: &Message) -> Result<bool, AllocError>
+        requires fits { Fits message.now }
         requires going { IsGoing self.old }
-        ensures verdict { self.new.verdict ≡ verdict_by self.old message.now found.now operations }
-        ensures counts { KeepsCounts self.old self.new }
+        ensures faultless { (before : List Message) →
+            HasTables (loaded_of self.old.image.now) self.old.tracer before → self.old.count ≡ length before →
+            IsFaultless (loaded_of self.old.image.now) before → IfOk result (λ taken. taken ≡ true →
+            message_fault (loaded_of self.old.image.now) before message.now ≡ None) }
+        ensures taken { (before : List Message) →
+            HasTables (loaded_of self.old.image.now) self.old.tracer before → self.old.count ≡ length before →
+            IfOk result (λ taken. taken ≡ true →
+            HasTables (loaded_of self.old.image.now) self.new.tracer (message.now ∷ before)) }
+        ensures left { IfOk result (λ taken. taken ≡ false → IsUnchanged self.old self.new) }
+        ensures refused { OnErr result (IsUnchanged self.old self.new) }
+        ensures stays { SetsTables self.old self.new }
+    {
+        let number = self.count + 1;
+        match &mut self.tracer {
+            Some(tracer) => tracer.take_unbreaking(self.image, number, message),
+            None => Ok(false),
+        }
+    }
+
+    /// Takes a message into the tables, or says what is first wrong with it. It is tried on a copy, since
+    /// judging it takes memory too.
+    #[inline(never)]
+    fn try_message(&mut self, message: &Message) -> Result<Option<Fault>, AllocError>
+        requires fits { Fits message.now }
+        requires going { IsGoing self.old }
+        ensures fault { (before : List Message) →
+            HasTables (loaded_of self.old.image.now) self.old.tracer before → self.old.count ≡ length before →
+            IfOk result (λ found. found ≡ message_fault (loaded_of self.old.image.now) before message.now) }
+        ensures taken { (before : List Message) →
+            HasTables (loaded_of self.old.image.now) self.old.tracer before → self.old.count ≡ length before →
+            IfOk result (λ found. IfNone found
+            (HasTables (loaded_of self.old.image.now) self.new.tracer (message.now ∷ before))) }
+        ensures stays { SetsTables self.old self.new }
+        ensures refused { OnErr result (self.new ≡ self.old) }
+    {
+        let mut tracer = self.tables()?;
+        let number = self.count + 1;
+        let found = examine(self.alloc, self.image, &mut tracer, number, message)?;
+        self.tracer = Some(tracer);
+        Ok(found)
+    }
+
+    /// How many operations the messages have.
+    #[inline(never)]
+    fn operations(&self) -> u64
+        ensures { (before : List Message) → HasTables (loaded_of self.now.image.now) self.now.tracer before →
+            result ≡ operations_of (loaded_of self.now.image.now) before }
+    {
+        match &self.tracer {
+            Some(tracer) => tracer.operations(),
+            None => 0,
+        }
+    }
+
+    /// Sets the verdict, where a message that is fine ends with one: their number passes its limit, or it
+    /// is the End.
+    fn conclude(&mut self, message: &Message)
+        requires going { IsGoing self.old }
+        ensures verdict { (before : List Message) →
+            HasTables (loaded_of self.old.image.now) self.old.tracer (message.now ∷ before) →
+            self.new.verdict ≡ verdict_by self.old message.now None
+            (operations_of (loaded_of self.old.image.now) (message.now ∷ before)) }
+        ensures stays { SetsVerdict self.old self.new }
         ensures room { IfNone self.new.verdict (self.new.count + 1 ≤ self.new.limits.messages) }
     {
         let number = self.count + 1;
-        match *found {
+        if number > self.limits.messages {
+            self.verdict = Some(Verdict::Undecided {
+                message: number,
+                limit: Limit::Messages,
+                hart: 0,
+                count: number,
+            });
+        } else if matches!(message.body, Body::End) {
+            self.verdict = Some(Verdict::Accept {
+                messages: number,
+                retired: self.retired,
+                operations: self.operations(),
+            });
+        }
+    }
+
+    /// Sets the verdict of a message that has a fault.
+    fn reject(&mut self, message: &Message, fault: Fault)
+        ensures verdict { self.new.verdict ≡ verdict_by self.old message.now (Some fault) 0 }
+        ensures stays { SetsVerdict self.old self.new }
+    {
+        self.verdict = Some(Verdict::Reject(Report {
+            message: self.count + 1,
+            offset: self.offset,
+            head: Some(message.head),
+            fault,
+        }));
+    }
+
+    /// Takes a message into the tables and sets the verdict, where it ends with one.
+    fn judge(&mut self, message: &Message) -> Result<(), AllocError>
+        requires fits { Fits message.now }
+        requires going { IsGoing self.old }
+        ensures verdict { (image : Loaded) (limits : Limits) (before : List Message) →
+            CoreStands image limits self.old before →
+            OnOk result (self.new.verdict ≡ verdict_at image limits before message.now) }
+        ensures tables { (image : Loaded) (limits : Limits) (before : List Message) →
+            CoreStands image limits self.old before →
+            OnOk result (IfNone (verdict_at image limits before message.now)
+            (HasTables image self.new.tracer (message.now ∷ before))) }
+        ensures stays { KeepsCounts self.old self.new }
+        ensures room { OnOk result (IfNone self.new.verdict (self.new.count + 1 ≤ self.new.limits.messages)) }
+        ensures refused { OnErr result (IsUnchanged self.old self.new) }
+    {
+        if self.take_unbreaking(message)? {
+            self.conclude(message);
+            return Ok(());
+        }
+        match self.try_message(message)? {
             Some(fault) => {
-                self.verdict = Some(Verdict::Reject(Report {
-                    message: number,
-                    offset: self.offset,
-                    head: Some(message.head),
-                    fault,
-                }));
+                self.reject(message, fault);
+                Ok(())
             }
-            None if number > self.limits.messages => {
-                self.verdict = Some(Verdict::Undecided {
-                    message: number,
-                    limit: Limit::Messages,
-                    hart: 0,
-                    count: number,
-                });
+            None => {
+                self.conclude(message);
+                Ok(())
             }
-            None if matches!(message.body, Body::End) => {
-                self.verdict = Some(Verdict::Accept {
-                    messages: number,
-                    retired: self.retired,
-                    operations,
-                });
-            }
-            None => {}
         }
     }
 
@@ -194,20 +280,8 @@ impl<'a> Core<'a> {
         }
     }
 
-    /// Keeps a message, and the tables with it.
-    fn keep(&mut self, message: &Message, tracer: Box<Tracer>) -> Result<(), AllocError>
-        requires { Fits message.now }
-        ensures kept { OnOk result (TakesTables self.old self.new message.now tracer) }
-        ensures refused { OnErr result (KeepsCounts self.old self.new) }
-        ensures verdict { OnErr result (self.new.verdict ≡ self.old.verdict) }
-    {
-        self.messages.push(message.copy())?;
-        self.tracer = Some(tracer);
-        Ok(())
-    }
-
     /// Takes the next message of a stream in which no message ended with a verdict. Where this one
-    /// does, the verdict stands in the core.
+    /// does, the verdict stands in the core. Where memory is refused nothing has changed.
     pub(crate) fn advance(&mut self, message: &Message) -> Result<(), AllocError>
         requires fits { Fits message.now }
         requires going { IsGoing self.old }
@@ -220,21 +294,16 @@ impl<'a> Core<'a> {
             OnOk result (self.new.verdict ≡ verdict_at image limits before message.now) }
         ensures counted { (counted : List Message) → HasCounted self.old counted →
             OnOk result (HasCounted self.new (message.now ∷ counted)) }
-        ensures refused { OnErr result (LosesTables self.old self.new) }
+        ensures refused { OnErr result (IsUnchanged self.old self.new) }
     {
-        let mut tracer = self.tables()?;
-        let number = self.count + 1;
-        let found = examine(self.alloc, self.image, &mut tracer, number, message)?;
-        let operations = operations_at(self.alloc, &tracer, message, &found)?;
-        self.keep(message, tracer)?;
-        self.conclude(message, &found, operations);
+        self.judge(message)?;
         self.note(message);
         Ok(())
     }
 
     /// Takes the next message of a stream, and answers what it decides. After an answer other than
-    /// Fine the same answer is given again, always, and nothing changes. Where memory is refused the
-    /// core stands for the same messages, and the call may be made again.
+    /// Fine the same answer is given again, always, and nothing changes. Where memory is refused nothing
+    /// has changed, and the call may be made again.
     pub fn feed(&mut self, message: &Message) -> Result<Fed, AllocError>
         requires { Fits message.now }
         ensures answer { (image : Loaded) (limits : Limits) (before : List Message) →
@@ -252,13 +321,13 @@ impl<'a> Core<'a> {
             OnOk result (HasCounted self.new (message.now ∷ counted)) }
         ensures ended { (v : Verdict) → HasEnded self.old v → result ≡ Ok (fed_as (Some v)) }
         ensures closed { (v : Verdict) → HasEnded self.old v → self.new ≡ self.old }
+        ensures unchanged { OnErr result (IsUnchanged self.old self.new) }
         ensures refused { (image : Loaded) (limits : Limits) (before : List Message) →
             CoreStands image limits self.old before → OnErr result (CoreStands image limits self.new before) }
         ensures uncounted { (counted : List Message) → HasCounted self.old counted →
             OnErr result (HasCounted self.new counted) }
         ensures going { OnErr result (IsGoing self.new) }
     {
-        let _image = self.image;
         if self.verdict.is_none() {
             self.advance(message)?;
         }

@@ -47,52 +47,44 @@ fn ends_with(
     gives_by(alloc, "text to s", &stream, 64, &wanted, status)
 }
 
+// The same with a REJECT that tells this.
+fn is_rejected(
+    alloc: Global,
+    front: usize,
+    behind: &str,
+    lines: usize,
+    told: &str,
+) -> Result<bool, Fail> {
+    let line = format!(in alloc; "REJECT {told}\n")?;
+    ends_with(alloc, front, behind, lines, line.as_str(), 1)
+}
+
 #[test]
-fn what_breaks_the_form_follows_the_lines(rt: HostRuntime) -> Result<(), Fail> {
-    for (front, behind, lines, line, status) in [
-        (100, "00", 161, "", 0),
-        (
-            90,
-            "",
-            150,
-            "REJECT message=3 offset=80 fault=2 Truncated have=10\n",
-            1,
-        ),
-        (
-            0,
-            "",
-            0,
-            "REJECT message=1 offset=0 fault=2 Truncated have=0\n",
-            1,
-        ),
-        (
-            28,
-            "11",
-            55,
-            "REJECT message=2 offset=28 fault=2 Truncated have=1\n",
-            1,
-        ),
-        (
-            28,
-            "1100",
-            55,
-            "REJECT message=2 offset=28 fault=1 BadFrame form=Length\n",
-            1,
-        ),
-        (
-            80,
-            "1200090002000000000000000100000000000000",
-            150,
-            "REJECT message=3 offset=92 fault=1 BadFrame form=Reserved\n",
-            1,
-        ),
+fn nothing_behind_the_end_is_printed(rt: HostRuntime) -> Result<(), Fail> {
+    assert!(rt; ends_with(rt.alloc(), 100, "00", 161, "", 0)?);
+    Ok(())
+}
+
+#[test]
+fn a_frame_cut_off_is_told_behind_the_lines(rt: HostRuntime) -> Result<(), Fail> {
+    for (front, behind, lines, line) in [
+        (90, "", 150, "message=3 offset=80 fault=2 Truncated have=10"),
+        (0, "", 0, "message=1 offset=0 fault=2 Truncated have=0"),
+        (28, "11", 55, "message=2 offset=28 fault=2 Truncated have=1"),
     ] {
-        let alloc = rt.alloc();
-        assert!(rt;
-            ends_with(alloc, front, behind, lines, line, status)?,
-            "{line}"
-        );
+        let told = is_rejected(rt.alloc(), front, behind, lines, line)?;
+        assert!(rt; told, "{line}");
     }
+    Ok(())
+}
+
+#[test]
+fn a_frame_of_no_form_is_told_behind_the_lines(rt: HostRuntime) -> Result<(), Fail> {
+    let length = "message=2 offset=28 fault=1 BadFrame form=Length";
+    assert!(rt; is_rejected(rt.alloc(), 28, "1100", 55, length)?);
+    let squash = "1200090002000000000000000100000000000000";
+    let reserved = "message=3 offset=92 fault=1 BadFrame form=Reserved";
+    assert!(rt; is_rejected(rt.alloc(), 80, squash, 150, reserved)?);
     Ok(())
 }
 

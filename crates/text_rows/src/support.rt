@@ -8,12 +8,12 @@ use tandem_cli::run_text;
 use tandem_io::{MemInputs, MemSink};
 
 /// An Open, a Retire and an End, in hexadecimal.
-pub const STREAM: &str = "1a000100000000000000000000000000000000000101000000000000\
+pub(crate) const STREAM: &str = "1a000100000000000000000000000000000000000101000000000000\
      32000700010000000000000001000000000000000000008000000000930050000400008000000000020001000500000000000000\
      1200090002000000000000000000000000000000";
 
 /// Their lines.
-pub const LINES: &str = "open time=0 version=1 harts=1 flags=0 granule=0 skew=0\n\
+pub(crate) const LINES: &str = "open time=0 version=1 harts=1 flags=0 granule=0 skew=0\n\
      retire hart=0 time=1 tag=1 pc=0x80000000 word=0x500093 next=0x80000004 trap=- rd=x1:0x5 csrs=-\n\
      end time=2\n";
 
@@ -27,7 +27,7 @@ fn words_of(alloc: Global, text: &str) -> Result<Vec<String>, AllocError> {
 }
 
 /// The content as `s`, read in pieces of at most `step` bytes.
-pub fn inputs_of(alloc: Global, content: &[u8], step: usize) -> Result<MemInputs, AllocError>
+pub(crate) fn inputs_of(alloc: Global, content: &[u8], step: usize) -> Result<MemInputs, AllocError>
     requires { 1 ≤ step }
 {
     let mut ins = MemInputs::new(alloc, step);
@@ -36,7 +36,7 @@ pub fn inputs_of(alloc: Global, content: &[u8], step: usize) -> Result<MemInputs
 }
 
 /// Whether the words write these bytes, and answer this status.
-pub fn gives(
+pub(crate) fn gives(
     alloc: Global,
     words: &str,
     ins: &mut MemInputs,
@@ -50,7 +50,7 @@ pub fn gives(
 }
 
 /// The same, with reads and writes of at most `step` bytes, none of which fails.
-pub fn gives_by(
+pub(crate) fn gives_by(
     alloc: Global,
     words: &str,
     content: &[u8],

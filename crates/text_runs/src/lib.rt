@@ -5,8 +5,6 @@ mod frames;
 mod pieces;
 mod printing;
 mod taking;
-#[cfg(test)]
-mod tests;
 mod verdicts;
 
 pub use frames::{TextPlace, find_fault, write_frames};

@@ -11,9 +11,6 @@ use tandem_io::{Failed, Source};
 /// The most bytes that a text may have: 64 MiB.
 pub const MOST_TEXT_BYTES: usize = 67_108_864;
 
-// How many bytes are read at most: one more than a text may have.
-const MOST: usize = MOST_TEXT_BYTES + 1;
-
 // How many bytes are asked for at a time.
 const PIECE: usize = 65_536;
 
@@ -30,7 +27,8 @@ pub enum TakenText {
     Memory,
 }
 
-/// Takes all that is left of a source, or one byte more than a text may have.
+/// Takes all that is left of a source, or one byte more than a text may have. No memory is asked for
+/// when that byte has come.
 pub fn take_text<S: Source>(alloc: Global, src: &mut S) -> TakenText
     ensures text { (got : List ℕ) × TakenFrom (S.left src.old) (S.left src.new) (S.log src.old) (S.log src.new) got
         × TextIs result got (S.left src.new) (S.ended src.new) }
@@ -54,10 +52,12 @@ fn take_by<S: Source>(alloc: Global, src: &mut S, piece: &mut [u8]) -> TakenText
     ensures beside { S.aside src.new ≡ S.aside src.old }
 {
     let mut bytes = Vec::new(alloc);
-    while bytes.len() < MOST {
-        let room = (MOST - bytes.len()).min(piece.len());
+    loop {
+        let free = MOST_TEXT_BYTES - bytes.len();
+        let room = (free + 1).min(piece.len());
         match src.read(&mut piece[..room]) {
             Ok(0) => return TakenText::Text(bytes),
+            Ok(n) if n > free => return TakenText::TooLarge,
             Ok(n) => {
                 if bytes.extend_from_slice(&piece[..n]).is_err() {
                     return TakenText::Memory;
@@ -66,5 +66,4 @@ fn take_by<S: Source>(alloc: Global, src: &mut S, piece: &mut [u8]) -> TakenText
             Err(Failed) => return TakenText::Failed,
         }
     }
-    TakenText::TooLarge
 }

@@ -9,7 +9,8 @@ use Rattle.rvwmo_model.specs.declared.instructions.Retired.{Retired}
 use Rattle.rvwmo_model.specs.declared.operations.Op.{Op}
 use Rattle.rvwmo_model.specs.InForm.{AreRising, IsPlaced, IsOf}
 use Rattle.trace_model.specs.Groups.{Access, same_place, part_at, some_below, parts_below}
-use Rattle.trace_model.specs.Entries.{MemoryUse, Fixed, Stores, Entry, Places, keys_of, memory_ops, entry_ops, insns_of}
+use Rattle.trace_model.specs.Entries.{MemoryUse, Fixed, Stores, Entry, Places, byte_places, memory_ops, entry_ops}
+use Rattle.trace_model.specs.Entries.{insns_of}
 use Rattle.trace_model.proofs.Lists.{In, Pairs, pairs_of, of_pairs, pairs_append, in_left, in_right, from_flat}
 use Rattle.trace_model.proofs.Groups.{same_self, some_there, part_from}
 
@@ -103,13 +104,13 @@ parts_once a f (suc n) = at (some_below (λ k. same_place (f k) (f n)) n) refl (
 module _ (g : Places) where
   entry_once : (e : Entry) → IsEntry e → (m : MemoryUse) → e.memory ≡ m → Pairs (λ u v. u ≢ v) (memory_ops g m)
   entry_once e k (Fixed ops) q = k.once ops q
-  entry_once e k (Stores a) q = parts_once a (keys_of g a) a.extent.len
+  entry_once e k (Stores a) q = parts_once a (byte_places g a) a.extent.len
 
   pub entry_own : (e : Entry) → IsEntry e → (m : MemoryUse) → e.memory ≡ m → (v : Op) → In v (memory_ops g m)
       → IsOf e.insn v
   entry_own e k (Fixed ops) q v i = k.own ops v q i
   entry_own e k (Stores a) q v i =
-      let y = part_from a (keys_of g a) a.extent.len v i in
+      let y = part_from a (byte_places g a) a.extent.len v i in
       let n = k.named a q in
       (ap (λ (z : Op). z.name.hart) y.2 ∙ n.0, ap (λ (z : Op). z.name.tag) y.2 ∙ n.1)
 

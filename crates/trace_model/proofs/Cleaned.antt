@@ -15,7 +15,7 @@ use Rattle.msg_frames.specs.declared.message.Message.{Message}
 use Rattle.msg_frames.specs.Frames.{FitsPiece, FitsBody}
 use Rattle.elf_image.specs.Images.{Loaded}
 use Rattle.tandem_base.specs.FirstFault.{◌or_else◌}
-use Rattle.std.specs.List.{filter}
+use Rattle.std.specs.List.{filter, cons_option, find}
 use Rattle.rv_decode.specs.declared.instruction.Insn.{Insn}
 use Rattle.rv_step.specs.declared.effect.Effect.{Effect}
 use Rattle.rv_step.specs.Harts.{HartState}
@@ -28,8 +28,8 @@ use Rattle.matching.specs.declared.stores.Fate.{Fate}
 use Rattle.matching.specs.declared.stores.Fate.TheVariants.{Nothing, Waiting, Done}
 use Rattle.matching.specs.declared.stores.Stored.{Stored}
 use Rattle.matching.specs.Settings.{number_after, is_open, harts_of, last_time, config_of}
-use Rattle.matching.specs.Searches.{latest, first_below, with_new}
-use Rattle.matching.specs.Pieces.{has}
+use Rattle.matching.specs.Searches.{first_below}
+use Rattle.msg_frames.specs.Pieces.{has}
 use Rattle.matching.specs.Tags.{last_tag, is_younger}
 use Rattle.matching.specs.Reports.{open_report_of, is_report, is_for, live_in, live, early, early_of, counting}
 use Rattle.matching.specs.Fates.{fate, is_fresh}
@@ -52,7 +52,7 @@ use Rattle.trace_model.specs.Extents.{is_extent, extent_of}
 use Rattle.trace_model.specs.Groups.{Access}
 use Rattle.trace_model.specs.Entries.{Stores, Entry}
 use Rattle.trace_model.specs.Retirements.{store_access, entry_of}
-use Rattle.trace_model.specs.Traces.{bytes_stored, stored_at, entry_in, with_entry, entries}
+use Rattle.trace_model.specs.Traces.{bytes_stored, stored_at, entry_in, entries}
 use Rattle.trace_model.proofs.Lists.{In, from_filter}
 use Rattle.trace_model.proofs.Extents.{extent_is}
 use Rattle.trace_model.proofs.Fresh.{IsFresh, IsInLine}
@@ -109,21 +109,21 @@ none_below p (suc n) e k l = at (first_below p n) refl (p n) refl (eqb k n) refl
                 let m = ltb-false k n j in
                 absurd (both_ways (eqb k n) h (eq-eqb k n (let s : k ≡ n = omega (arith, m, l) in s)))
 
-latest_passes : {X : Type 0} (p : X → Bool) (xs : List X) (x : X) → latest p xs ≡ Some x → In x xs × (p x ≡ true)
+latest_passes : {X : Type 0} (p : X → Bool) (xs : List X) (x : X) → find p xs ≡ Some x → In x xs × (p x ≡ true)
 latest_passes p [] x e = absurd (cc)
 latest_passes p (y ∷ ys) x e = at (p y) refl e (latest_passes p ys x)
   where
-    at : (b : Bool) → p y ≡ b → cond b (Some y) (latest p ys) ≡ Some x
-        → (latest p ys ≡ Some x → In x ys × (p x ≡ true)) → In x (y ∷ ys) × (p x ≡ true)
+    at : (b : Bool) → p y ≡ b → cond b (Some y) (find p ys) ≡ Some x
+        → (find p ys ≡ Some x → In x ys × (p x ≡ true)) → In x (y ∷ ys) × (p x ≡ true)
     at true q e rec = let s : y ≡ x = cc in (inl (sym s), subst (λ z. p z ≡ true) s q)
     at false q e rec = let r = rec e in (inr r.0, r.1)
 
-none_latest : {X : Type 0} (p : X → Bool) (xs : List X) → latest p xs ≡ None → (x : X) → In x xs → p x ≡ false
+none_latest : {X : Type 0} (p : X → Bool) (xs : List X) → find p xs ≡ None → (x : X) → In x xs → p x ≡ false
 none_latest p [] e x i = absurd i
 none_latest p (y ∷ ys) e x i = at (p y) refl e i (none_latest p ys)
   where
-    at : (b : Bool) → p y ≡ b → cond b (Some y) (latest p ys) ≡ None → In x (y ∷ ys)
-        → (latest p ys ≡ None → (x : _) → In x ys → p x ≡ false) → p x ≡ false
+    at : (b : Bool) → p y ≡ b → cond b (Some y) (find p ys) ≡ None → In x (y ∷ ys)
+        → (find p ys ≡ None → (x : _) → In x ys → p x ≡ false) → p x ≡ false
     at true q e i rec = absurd (cc)
     at false q e (inl s) rec = subst (λ z. p z ≡ false) (sym s) q
     at false q e (inr i) rec = rec e x i
@@ -157,7 +157,7 @@ pub record HasEntry (es : List Entry) (h : ℕ) (s : Stored) : Type 0 where
   pub len : access.extent.len ≡ length s.piece.bytes
 
 entry_more : (o : Option Entry) (es : List Entry) (h : ℕ) (s : Stored) → HasEntry es h s
-    → HasEntry (with_entry o es) h s
+    → HasEntry (cons_option o es) h s
 entry_more o es h s e = record {
   entry = e.entry;
   access = e.access;
@@ -184,18 +184,18 @@ module _ (rs bs : List OpenReport) (head : Head) (put : List ℕ) (o : Option Pi
     (s : Stored)
     (rec : In s old → HasEntry es head.hart s) where
   abbrev Has : Doing → Type 0
-  Has d = StoresPiece d o → In s (with_new (new_store d head.tag o) old)
-      → HasEntry (with_entry (entry_of rs bs head put d) es) head.hart s
+  Has d = StoresPiece d o → In s (cons_option (new_store d head.tag o) old)
+      → HasEntry (cons_option (entry_of rs bs head put d) es) head.hart s
 
-  on : (d : Doing) → In s old → HasEntry (with_entry (entry_of rs bs head put d) es) head.hart s
+  on : (d : Doing) → In s old → HasEntry (cons_option (entry_of rs bs head put d) es) head.hart s
   on d i = entry_more (entry_of rs bs head put d) es head.hart s (rec i)
 
   store_entry : (insn : Insn) (addr len : ℕ) → Has (store insn addr len)
   store_entry insn addr len f i =
-      at (subst (λ (z : Option Piece). In s (with_new (new_store (store insn addr len) head.tag z) old)) f.1.is i)
+      at (subst (λ (z : Option Piece). In s (cons_option (new_store (store insn addr len) head.tag z) old)) f.1.is i)
     where
       at : (s ≡ record { tag = head.tag; piece = f.1.piece }) ⊎ In s old
-          → HasEntry (with_entry (entry_of rs bs head put (store insn addr len)) es) head.hart s
+          → HasEntry (cons_option (entry_of rs bs head put (store insn addr len)) es) head.hart s
       at (inr j) = on (store insn addr len) j
       at (inl q) = record {
         entry = _;
@@ -255,9 +255,10 @@ module _ (image : Loaded) (before : List Message) (head : Head) (retire : Retire
       )
 
   has_new : (s : Stored) → (In s (retired_stores image before head.hart) → HasEntry (entries image before) head.hart s)
-      → In s (with_new (new_store (doing_at image before head.hart) head.tag (effect_at image before head retire).store)
+      → In s (cons_option
+      (new_store (doing_at image before head.hart) head.tag (effect_at image before head retire).store)
       (retired_stores image before head.hart))
-      → HasEntry (with_entry (entry_in image before head (body.Retire retire)) (entries image before)) head.hart s
+      → HasEntry (cons_option (entry_in image before head (body.Retire retire)) (entries image before)) head.hart s
   has_new s rec i = new_entry (live before head.hart) (early before) head (stored_at image before head retire)
       (effect_at image before head retire).store (entries image before) (retired_stores image before head.hart) s rec
       (doing_at image before head.hart) stores_piece i
@@ -265,20 +266,20 @@ module _ (image : Loaded) (before : List Message) (head : Head) (retire : Retire
 has_now : (image : Loaded) (before : List Message) (head : Head) (b : Body) (h : ℕ) (s : Stored)
     → (In s (retired_stores image before h) → HasEntry (entries image before) h s)
     → In s (stores_in image before (retired_stores image before h) head b h)
-    → HasEntry (with_entry (entry_in image before head b) (entries image before)) h s
+    → HasEntry (cons_option (entry_in image before head b) (entries image before)) h s
 has_now image before head (body.Retire retire) h s rec i = at (eqb head.hart h) refl i
   where
     at : (c : Bool) → eqb head.hart h ≡ c
-        → In s (cond c (with_new (new_store (doing_at image before h) head.tag
+        → In s (cond c (cons_option (new_store (doing_at image before h) head.tag
         (step_at image before h head retire).effect.store) (retired_stores image before h))
         (retired_stores image before h))
-        → HasEntry (with_entry (entry_in image before head (body.Retire retire)) (entries image before)) h s
+        → HasEntry (cons_option (entry_in image before head (body.Retire retire)) (entries image before)) h s
     at false q i = entry_more (entry_in image before head (body.Retire retire)) (entries image before) h s (rec i)
     at true q i = subst
         (λ (z : ℕ). (In s (retired_stores image before z) → HasEntry (entries image before) z s)
-        → In s (with_new (new_store (doing_at image before z) head.tag
+        → In s (cons_option (new_store (doing_at image before z) head.tag
         (step_at image before z head retire).effect.store) (retired_stores image before z))
-        → HasEntry (with_entry (entry_in image before head (body.Retire retire)) (entries image before)) z s)
+        → HasEntry (cons_option (entry_in image before head (body.Retire retire)) (entries image before)) z s)
         (eqb-true head.hart h q) (has_new image before head retire s) rec i
 has_now image before head b h s rec i = entry_more (entry_in image before head b) (entries image before) h s (rec i)
 
@@ -292,16 +293,14 @@ has_entry image (m ∷ before) h s i = has_now image before m.head m.body h s (h
 -- the bytes of a piece are those from its address on
 inside_of : (piece : Piece) (x : ℕ) → has piece x ≡ true → (piece.addr ≤ x) × (x < piece.addr + length piece.bytes)
 inside_of piece x e =
-    let p = and_parts (leb piece.addr x) (ltb (x - piece.addr) (length piece.bytes)) e in
-    let l : piece.addr ≤ x = leb-true _ _ p.0 in
-    let m : x - piece.addr < length piece.bytes = ltb-true _ _ p.1 in
-    (l, omega (arith, l, m))
+    let p = and_parts (leb piece.addr x) (ltb x (piece.addr + length piece.bytes)) e in
+    (leb-true _ _ p.0, ltb-true _ _ p.1)
 
 first_byte : (piece : Piece) → 1 ≤ length piece.bytes → (x : ℕ) × (has piece x ≡ true)
 first_byte piece l = (
   piece.addr,
   and_from _ _ (le-leb piece.addr piece.addr (omega arith))
-      (lt-ltb (piece.addr - piece.addr) (length piece.bytes) (omega (arith, l))),
+      (lt-ltb piece.addr (piece.addr + length piece.bytes) (omega (arith, l))),
 )
 
 -- the store that a part is of

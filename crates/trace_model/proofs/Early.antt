@@ -1,7 +1,7 @@
 -- Stores that are performed before their instruction retires.
 use Rattle.std.proofs.Common.{ℕ, ◌≡◌, ◌≢◌, ◌⊎◌, inl, inr, Bool, true, false, not, eqb, ◌&&◌, cond, List, [], ◌∷◌}
 use Rattle.std.proofs.Common.{length, map, replicate, Some, refl, sym, ap, subst, ◌∙◌}
-use Rattle.std.specs.List.{filter}
+use Rattle.std.specs.List.{filter, find}
 use Rattle.std.proofs.lemmas.List.{length-replicate}
 use Rattle.std.proofs.lemmas.Bool.{false≢true, both_ways, and_from, eq-eqb}
 use Rattle.tandem_base.specs.declared.extent.Extent.{Extent}
@@ -29,7 +29,6 @@ use Rattle.rvwmo_model.proofs.Membership.{in_cases as in_first}
 use Rattle.elf_image.specs.Images.{Loaded}
 use Rattle.trace_model.specs.Groups.{mask_from}
 use Rattle.matching.specs.declared.reports.OpenReport.{OpenReport}
-use Rattle.matching.specs.Searches.{latest}
 use Rattle.matching.specs.Settings.{number_after}
 use Rattle.matching.specs.Tags.{is_early}
 use Rattle.matching.specs.Reports.{open_report_of, is_report, early, place_of_report}
@@ -39,12 +38,12 @@ use Rattle.trace_model.specs.Traces.{entries, places, early_extent, early_op, gr
 use Rattle.trace_model.proofs.Groups.{whole_op}
 use Rattle.trace_model.proofs.Performed.{IsBelow, is_above, members_self}
 
-pub latest_in : (p : OpenReport → Bool) (rs : List OpenReport) (r : OpenReport) → latest p rs ≡ Some r
+pub latest_in : (p : OpenReport → Bool) (rs : List OpenReport) (r : OpenReport) → find p rs ≡ Some r
     → In r rs × (p r ≡ true)
 latest_in p [] r e = absurd (cc)
 latest_in p (s ∷ rs) r e = at (p s) refl e (latest_in p rs r)
   where
-    at : (c : Bool) → p s ≡ c → cond c (Some s) (latest p rs) ≡ Some r → (latest p rs ≡ Some r → In r rs × (p r ≡ true))
+    at : (c : Bool) → p s ≡ c → cond c (Some s) (find p rs) ≡ Some r → (find p rs ≡ Some r → In r rs × (p r ≡ true))
         → In r (s ∷ rs) × (p r ≡ true)
     at true q e rec = let same : s ≡ r = cc in (inl (sym same), ap p (sym same) ∙ q)
     at false q e rec = let y = rec e in (inr y.0, y.1)
@@ -72,7 +71,7 @@ module _ (rs : List OpenReport) (h t : ℕ) where
     back = λ v h. contained _ v (others_back v (listed _ v h));
   }
 
-  module _ (b : OpenReport) (is : latest (is_report h t) rs ≡ Some b) (one : (r : OpenReport) → In r rs
+  module _ (b : OpenReport) (is : find (is_report h t) rs ≡ Some b) (one : (r : OpenReport) → In r rs
       → is_report h t r ≡ true
       → r ≡ b) where
     abbrev e : Op

@@ -16,7 +16,8 @@ use Rattle.matching.specs.declared.stores.Fate.{Fate}
 use Rattle.matching.specs.declared.reports.OpenReport.{OpenReport}
 use Rattle.matching.specs.declared.stores.Fate.TheVariants.{Nothing, Waiting, Done}
 use Rattle.matching.specs.Settings.{number_after}
-use Rattle.matching.specs.Pieces.{has, line_start}
+use Rattle.msg_frames.specs.Pieces.{has}
+use Rattle.matching.specs.Pieces.{line_start}
 use Rattle.matching.specs.Tags.{is_of, is_early}
 use Rattle.matching.specs.Reports.{open_report_of, is_report, live_in, live, early_in, early}
 use Rattle.matching.specs.Fates.{drained, fate_in, fate}

@@ -6,7 +6,8 @@ use Rattle.msg_frames.specs.declared.message.Body.{Body}
 use Rattle.msg_frames.specs.declared.message.Body.TheVariants as body
 use Rattle.msg_frames.specs.declared.message.Message.{Message}
 use Rattle.matching.specs.declared.stores.Fate.TheVariants.{Nothing}
-use Rattle.matching.specs.Pieces.{has, line_start}
+use Rattle.msg_frames.specs.Pieces.{has}
+use Rattle.matching.specs.Pieces.{line_start}
 use Rattle.matching.specs.Tags.{is_early}
 use Rattle.matching.specs.Fates.{fate}
 

@@ -1,7 +1,7 @@
 -- Each message makes the trace grow.
 use Rattle.std.proofs.Common.{ℕ, ◌<◌, ◌≤◌, ◌≡◌, ◌≢◌, inl, inr, true, false, List, [], ◌∷◌, length}
 use Rattle.std.proofs.Common.{Option, Some, None, refl, sym, ap, ◌∙◌, arith}
-use Rattle.std.specs.List.{AllPairs}
+use Rattle.std.specs.List.{AllPairs, cons_option}
 use Rattle.msg_frames.specs.declared.message.Head.{Head}
 use Rattle.msg_frames.specs.declared.message.Piece.{Piece}
 use Rattle.msg_frames.specs.declared.message.Retire.{Retire}
@@ -23,7 +23,7 @@ use Rattle.matching.specs.Runs.{run_of, doing_at}
 use Rattle.trace_model.specs.Entries.{Entry, insns_of}
 use Rattle.trace_model.specs.Parts.{IsPartFor, ArePartsFor}
 use Rattle.trace_model.specs.Growths.{GrownBy, own_place}
-use Rattle.trace_model.specs.Traces.{entry_in, with_entry, entries, places, early_op, granule_of}
+use Rattle.trace_model.specs.Traces.{entry_in, entries, places, early_op, granule_of}
 use Rattle.trace_model.specs.Traces.{stored_at, trace_of}
 use Rattle.trace_model.proofs.Lists.{In, listed}
 use Rattle.trace_model.proofs.Extents.{extent_is}
@@ -51,12 +51,12 @@ entries_rise image (m ∷ before) s = at m.body s.2 (entries_rise image before s
   where
     more : (o : Option Entry) → ((e : Entry) → o ≡ Some e → (w : Retired) → In w (insns_of (entries image before))
         → w.hart ≡ e.insn.hart → w.tag < e.insn.tag)
-        → AreRising (insns_of (entries image before)) → AreRising (insns_of (with_entry o (entries image before)))
+        → AreRising (insns_of (entries image before)) → AreRising (insns_of (cons_option o (entries image before)))
     more None younger up = up
     more (Some e) younger up = rising_more (insns_of (entries image before)) e.insn up (younger e refl)
 
     at : (b : Body) → SuitsBody image before m.head b → AreRising (insns_of (entries image before))
-        → AreRising (insns_of (with_entry (entry_in image before m.head b) (entries image before)))
+        → AreRising (insns_of (cons_option (entry_in image before m.head b) (entries image before)))
     at (body.Retire retire) t up = more (entry_in image before m.head (body.Retire retire)) younger up
       where
         younger : (e : Entry) → entry_in image before m.head (body.Retire retire) ≡ Some e → (w : Retired)

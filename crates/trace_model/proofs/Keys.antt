@@ -1,5 +1,6 @@
 -- The entries of a list of messages: what one more message adds, and of which instruction it is.
 use Rattle.std.proofs.Common.{ℕ, ◌≡◌, ◌⊎◌, inl, inr, List, Option, Some, None, refl, sym, ap, subst}
+use Rattle.std.specs.List.{cons_option}
 use Rattle.msg_frames.specs.declared.message.Head.{Head}
 use Rattle.msg_frames.specs.declared.message.Body.{Body}
 use Rattle.msg_frames.specs.declared.message.Body.TheVariants as body
@@ -12,15 +13,15 @@ use Rattle.matching.specs.Runs.{doing_at}
 use Rattle.rvwmo_model.specs.declared.instructions.Retired.{Retired}
 use Rattle.trace_model.specs.Entries.{Entry, MemoryUse}
 use Rattle.trace_model.specs.Retirements.{entry_of}
-use Rattle.trace_model.specs.Traces.{entry_in, with_entry, stored_at}
+use Rattle.trace_model.specs.Traces.{entry_in, stored_at}
 use Rattle.trace_model.proofs.Lists.{In}
 
-pub with_cases : (o : Option Entry) (es : List Entry) (e : Entry) → In e (with_entry o es) → In e es ⊎ (o ≡ Some e)
+pub with_cases : (o : Option Entry) (es : List Entry) (e : Entry) → In e (cons_option o es) → In e es ⊎ (o ≡ Some e)
 with_cases None es e i = inl i
 with_cases (Some f) es e (inl s) = inr (ap Some (sym s))
 with_cases (Some f) es e (inr i) = inl i
 
-pub with_more : (o : Option Entry) (es : List Entry) (e : Entry) → In e es → In e (with_entry o es)
+pub with_more : (o : Option Entry) (es : List Entry) (e : Entry) → In e es → In e (cons_option o es)
 with_more None es e i = i
 with_more (Some f) es e i = inr i
 

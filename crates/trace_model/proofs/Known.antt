@@ -1,6 +1,7 @@
 -- Each Insert that a line holds is of a store that retired, and so is each byte with a fate.
 use Rattle.std.proofs.Common.{ℕ, ◌≡◌, ◌⊎◌, inl, inr, Bool, true, false, eqb, ◌&&◌, cond, List, [], ◌∷◌}
 use Rattle.std.proofs.Common.{Option, refl, ap, subst, ◌∙◌}
+use Rattle.std.specs.List.{cons_option}
 use Rattle.std.proofs.lemmas.Bool.{and_parts, eqb-true}
 use Rattle.msg_frames.specs.declared.message.Head.{Head}
 use Rattle.msg_frames.specs.declared.message.Piece.{Piece}
@@ -13,12 +14,13 @@ use Rattle.matching.specs.declared.stores.Fate.{Fate}
 use Rattle.matching.specs.declared.stores.Held.{Held}
 use Rattle.matching.specs.declared.stores.Fate.TheVariants.{Nothing, Done}
 use Rattle.matching.specs.Settings.{number_after}
-use Rattle.matching.specs.Pieces.{has, line_start}
+use Rattle.msg_frames.specs.Pieces.{has}
+use Rattle.matching.specs.Pieces.{line_start}
 use Rattle.matching.specs.Tags.{is_of, is_early}
 use Rattle.matching.specs.Fates.{waiting, drained, fate_in, fate}
 use Rattle.trace_model.proofs.Fresh.{AreFresh, IsFreshAt}
 use Rattle.trace_model.specs.Entries.{Stores, Entry}
-use Rattle.trace_model.specs.Traces.{entry_in, with_entry, entries}
+use Rattle.trace_model.specs.Traces.{entry_in, entries}
 use Rattle.trace_model.proofs.Lists.{In}
 use Rattle.trace_model.proofs.Suits.{IsKnown, SuitsBody, Suited}
 use Rattle.trace_model.proofs.Past.{Timed}
@@ -48,7 +50,8 @@ clean image (m ∷ before) s = (clean image before s.0, fits image before m.head
 
 -- ---- each Insert that a line holds is of a store that retired
 
-stored_more : (es : List Entry) (o : Option Entry) (h : ℕ) (e : Held) → IsStored es h e → IsStored (with_entry o es) h e
+stored_more : (es : List Entry) (o : Option Entry) (h : ℕ) (e : Held) → IsStored es h e
+    → IsStored (cons_option o es) h e
 stored_more es o h e s = record {
   entry = s.entry;
   access = s.access;
@@ -141,7 +144,7 @@ module _ (image : Loaded) (before : List Message) (head : Head) (h t x : ℕ)
       at false q = with_piece piece _ (k.1 q).known (is_of head h t && has piece x) refl
   owned_now _ k = old
 
-has_more : (es : List Entry) (o : Option Entry) (h t : ℕ) → HasStore es h t → HasStore (with_entry o es) h t
+has_more : (es : List Entry) (o : Option Entry) (h t : ℕ) → HasStore es h t → HasStore (cons_option o es) h t
 has_more es o h t s = record {
   entry = s.entry;
   access = s.access;

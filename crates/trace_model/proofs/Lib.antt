@@ -12,8 +12,9 @@ pub mod Fresh
 pub mod GroupLaws
 pub mod Groups
 pub mod Growing
+pub mod Histories
 pub mod Instructions
-pub mod KeptOps
+pub mod Tracers
 pub mod Keys
 pub mod Known
 pub mod LaterPlaces

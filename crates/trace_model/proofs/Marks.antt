@@ -1,5 +1,5 @@
 -- Operations of marked bytes: the same marks give the same operation, and marks from the highest byte down.
-use Rattle.std.proofs.Common.{ℕ, zero, suc, ◌+◌, ◌*◌, ◌-◌, ◌^◌, ◌≤◌, ◌<◌, ◌≡◌, Bool, true, false, cond, ◌||◌}
+use Rattle.std.proofs.Common.{ℕ, zero, suc, ◌+◌, ◌*◌, ◌-◌, ◌^◌, ◌≤◌, ◌<◌, ◌≡◌, Bool, false, cond, ◌||◌}
 use Rattle.std.proofs.Common.{List, [], ◌∷◌, ◌++◌, length, take, get_or}
 use Rattle.std.proofs.Common.{Option, refl, sym, ap, ◌∙◌, arith, append_assoc}
 use Rattle.std.proofs.lemmas.List.{take_more, length-take}
@@ -8,7 +8,7 @@ use Rattle.tandem_base.specs.declared.names.Place.{Place}
 use Rattle.rvwmo_model.specs.declared.operations.Op.{Op}
 use Rattle.trace_model.specs.Groups.{Access, mask_from, first_from, masked_from, op_of, same_place, part_at, some_below}
 use Rattle.trace_model.specs.Groups.{parts_below}
-use Rattle.trace_model.specs.Marks.{eight, is_marked, HasAtMost}
+use Rattle.trace_model.specs.Marks.{eight, HasAtMost}
 use Rattle.trace_model.proofs.Groups.{mask_within, step_on}
 
 -- ---- from the highest byte down

@@ -2,7 +2,7 @@
 use Rattle.std.proofs.Common.{ℕ, zero, suc, ◌+◌, ◌≡◌, Bool, true, false, not, eqb, ◌&&◌, cond, List, []}
 use Rattle.std.proofs.Common.{◌∷◌}
 use Rattle.std.proofs.Common.{length, Option, Some, None, refl, sym, ap, subst, ◌∙◌}
-use Rattle.std.specs.List.{filter, flat_map}
+use Rattle.std.specs.List.{filter, flat_map, cons_option}
 use Rattle.std.proofs.lemmas.Bool.{both_ways, and_parts, eqb-true, eq-eqb}
 use Rattle.std.proofs.lemmas.List.Elements.{filter-append}
 use Rattle.tandem_base.specs.declared.names.Place.{Place}
@@ -30,9 +30,9 @@ use Rattle.tandem_base.specs.declared.extent.Extent.{Extent}
 use Rattle.rvwmo_model.specs.declared.operations.OpKind.{OpKind}
 use Rattle.rvwmo_model.specs.declared.operations.Ann.{Ann}
 use Rattle.trace_model.specs.Groups.{Access, same_place, part_at, some_below, parts_below, parts_of}
-use Rattle.trace_model.specs.Entries.{MemoryUse, Fixed, Stores, Entry, Places, keys_of, memory_ops, entry_ops}
+use Rattle.trace_model.specs.Entries.{MemoryUse, Fixed, Stores, Entry, Places, byte_places, memory_ops, entry_ops}
 use Rattle.trace_model.specs.Retirements.{load_access, read_places, store_access, bypass_op, atomic_ops, entry_of}
-use Rattle.trace_model.specs.Traces.{entry_in, with_entry, entries, places, stored_at, trace_of}
+use Rattle.trace_model.specs.Traces.{entry_in, entries, places, stored_at, trace_of}
 use Rattle.trace_model.specs.Kept.{is_kept, oldest_place, kept_of}
 use Rattle.trace_model.proofs.Groups.{fun_ext}
 use Rattle.trace_model.proofs.Early.{latest_in}
@@ -125,10 +125,10 @@ module _ (h : ℕ) (p : Op → Bool) (own : (v : Op) → eqb v.name.hart h ≡ f
         same z t x e = rw e (agree t x)
 
         at : (c : Bool) → eqb a.hart h ≡ c
-            → filter p (parts_of a (keys_of g' a)) ≡ filter p (parts_of a (keys_of g a))
-        at true e = ap (λ (f : ℕ → Option Place). filter p (parts_of a f)) (fun_ext (keys_of g' a) (keys_of g a)
+            → filter p (parts_of a (byte_places g' a)) ≡ filter p (parts_of a (byte_places g a))
+        at true e = ap (λ (f : ℕ → Option Place). filter p (parts_of a f)) (fun_ext (byte_places g' a) (byte_places g a)
             (λ k. same a.hart a.tag (a.extent.addr + k) (eqb-true a.hart h e)))
-        at false e = no_parts a (keys_of g' a) a.extent.len e ∙ sym (no_parts a (keys_of g a) a.extent.len e)
+        at false e = no_parts a (byte_places g' a) a.extent.len e ∙ sym (no_parts a (byte_places g a) a.extent.len e)
 
     ops_same : (es : List Entry) → filter p (flat_map (entry_ops g') es) ≡ filter p (flat_map (entry_ops g) es)
     ops_same [] = refl
@@ -163,7 +163,7 @@ module _ (h : ℕ) (p : Op → Bool) (own : (v : Op) → eqb v.name.hart h ≡ f
         (extent_of addr len).len other)
     new_none g rs bs put (store insn addr len) = none_of g _
         (no_parts (store_access head insn (extent_of addr len) put)
-        (keys_of g (store_access head insn (extent_of addr len) put)) (extent_of addr len).len other)
+        (byte_places g (store_access head insn (extent_of addr len) put)) (extent_of addr len).len other)
     new_none g rs bs put (lr insn addr len) = none_of g _
         (no_parts (load_access rs head insn (extent_of addr len)) (read_places rs head.tag (extent_of addr len))
         (extent_of addr len).len other)
@@ -179,7 +179,7 @@ module _ (h : ℕ) (p : Op → Bool) (own : (v : Op) → eqb v.name.hart h ≡ f
     in_none g image before _ = λ e q. absurd (cc)
 
     with_none : (g : Places) (o : Option Entry) (es : List Entry) → AddsNone g o
-        → filter p (flat_map (entry_ops g) (with_entry o es)) ≡ filter p (flat_map (entry_ops g) es)
+        → filter p (flat_map (entry_ops g) (cons_option o es)) ≡ filter p (flat_map (entry_ops g) es)
     with_none g None es n = refl
     with_none g (Some e) es n =
         filter-append p (entry_ops g e) (flat_map (entry_ops g) es) ∙ rw (n e refl) refl

@@ -2,6 +2,7 @@
 use Rattle.std.proofs.Common.{ℕ, ◌+◌, ◌-◌, ◌<◌, ◌≤◌, ◌≡◌, inl, inr, Bool, true, false, eqb, cond}
 use Rattle.std.proofs.Common.{List, [], ◌∷◌, Option, Some}
 use Rattle.std.proofs.Common.{refl, sym, ap, subst, ◌∙◌, arith}
+use Rattle.std.specs.List.{cons_option}
 use Rattle.std.proofs.lemmas.Bool.{both_ways, eqb-true, eq-eqb}
 use Rattle.tandem_base.specs.declared.extent.Extent.{Extent}
 use Rattle.tandem_base.specs.declared.names.Place.{Place}
@@ -23,7 +24,7 @@ use Rattle.trace_model.specs.Extents.{extent_of}
 use Rattle.trace_model.specs.Groups.{Access, same_place, part_at}
 use Rattle.trace_model.specs.Entries.{Fixed, Entry}
 use Rattle.trace_model.specs.Retirements.{load_access, read_places, load_ops, entry, entry_of}
-use Rattle.trace_model.specs.Traces.{entry_in, with_entry, entries, stored_at}
+use Rattle.trace_model.specs.Traces.{entry_in, entries, stored_at}
 use Rattle.trace_model.proofs.Lists.{In}
 use Rattle.trace_model.proofs.Extents.{extent_is}
 use Rattle.trace_model.proofs.Groups.{same_self, covers_from}
@@ -48,7 +49,7 @@ pub record HasLr (es : List Entry) (h : ℕ) (p : Pair) : Type 0 where
 -- one more entry that reserves nothing
 has_more : (es : List Entry) (o : Option Entry) (h : ℕ) (p : Pair)
     → ((e : Entry) → o ≡ Some e → e.insn.hart ≡ h → reserves e.insn.insn ≡ false) → HasLr es h p
-    → HasLr (with_entry o es) h p
+    → HasLr (cons_option o es) h p
 has_more es o h p quiet k = record {
   entry = k.entry;
   there = with_more o es k.entry k.there;
@@ -95,7 +96,7 @@ module _ (es : List Entry) (live early : List OpenReport) (pair : Option Pair) (
     (old : (p : Pair) → pair ≡ Some p → HasLr es head.hart p) where
   -- an instruction that reserves nothing leaves the pair
   quiet : (d : Doing) → ((e : Entry) → entry_of live early head put d ≡ Some e → reserves e.insn.insn ≡ false)
-      → (p : Pair) → pair ≡ Some p → HasLr (with_entry (entry_of live early head put d) es) head.hart p
+      → (p : Pair) → pair ≡ Some p → HasLr (cons_option (entry_of live early head put d) es) head.hart p
   quiet d apart p e = has_more es (entry_of live early head put d) head.hart p (λ f q h. apart f q) (old p e)
 
   -- its entry is of that instruction
@@ -105,7 +106,7 @@ module _ (es : List Entry) (live early : List OpenReport) (pair : Option Pair) (
       ∙ apart
 
   paired : (d : Doing) → SuitsDoing live early pair head put d → (p : Pair) → pair_after d pair ≡ Some p
-      → HasLr (with_entry (entry_of live early head put d) es) head.hart p
+      → HasLr (cons_option (entry_of live early head put d) es) head.hart p
   paired (trap cause value) s p e = old p e
   paired (plain insn) s p e = quiet (plain insn) (λ f q. of_insn insn _ f q refl (plain_quiet insn s.1).apart) p e
   paired (counter insn) s p e = quiet (counter insn) (λ f q. of_insn insn _ f q refl (counter_quiet insn s.1).apart) p e
@@ -141,7 +142,7 @@ module _ (es : List Entry) (live early : List OpenReport) (pair : Option Pair) (
 module _ (image : Loaded) (before : List Message) (suited : Suited image before) (head : Head) (h : ℕ) (p : Pair)
     (rec : (g : ℕ) (q : Pair) → (run_of image before g).pair ≡ Some q → HasLr (entries image before) g q) where
   abbrev Now : Body → Type 0
-  Now b = HasLr (with_entry (entry_in image before head b) (entries image before)) h p
+  Now b = HasLr (cons_option (entry_in image before head b) (entries image before)) h p
 
   -- a message of another hart, or of another kind
   still : (b : Body) → (head.hart ≡ h → ⊥) → (run_of image before h).pair ≡ Some p → Now b
@@ -158,7 +159,7 @@ module _ (image : Loaded) (before : List Message) (suited : Suited image before)
           (run_of image before h)).pair ≡ Some p → Now (body.Retire retire)
       on true q f =
           let same = eqb-true head.hart h q in
-          subst (λ (z : ℕ). HasLr (with_entry (entry_in image before head (body.Retire retire)) (entries image before))
+          subst (λ (z : ℕ). HasLr (cons_option (entry_in image before head (body.Retire retire)) (entries image before))
           z p) same
           (paired (entries image before) (live before head.hart) (early before) (run_of image before head.hart).pair
           head (stored_at image before head retire)

@@ -1,6 +1,7 @@
 -- The places of a trace are those of messages that were.
 use Rattle.std.proofs.Common.{ℕ, ◌+◌, ◌<◌, ◌≤◌, ◌≡◌, inl, inr, Bool, true, eqb, List, [], ◌∷◌, length}
 use Rattle.std.proofs.Common.{map, Option, Some, None, refl, sym, ap, subst, ◌∙◌, arith}
+use Rattle.std.specs.List.{find}
 use Rattle.std.proofs.lemmas.Bool.Decides.{nat_tests}
 use Rattle.tandem_base.specs.declared.extent.Extent.{Extent}
 use Rattle.tandem_base.specs.declared.names.Place.{Place}
@@ -19,9 +20,8 @@ use Rattle.rvwmo_model.specs.Order.{everything}
 use Rattle.matching.specs.declared.stores.Fate.{Fate}
 use Rattle.matching.specs.declared.reports.OpenReport.{OpenReport}
 use Rattle.matching.specs.declared.stores.Fate.TheVariants.{Nothing, Waiting, Done}
-use Rattle.matching.specs.Searches.{latest}
 use Rattle.matching.specs.Settings.{number_after, last_time}
-use Rattle.matching.specs.Pieces.{has}
+use Rattle.msg_frames.specs.Pieces.{has}
 use Rattle.matching.specs.Reports.{is_for, counting, live, early, place_of_report, place_counted}
 use Rattle.matching.specs.Fates.{fate, place_of}
 use Rattle.matching.specs.Runs.{doing_at}
@@ -105,12 +105,12 @@ module _ (P : Place → Type 0) (head : Head) (rs bs : List OpenReport) (live_p 
       counted_at (extent.addr + y.0) q (sym (ap (λ (z : Op). z.place) y.2) ∙ f)
 
   atomic_at : (p : OpenReport → Bool) (k : OpKind) (extent : Extent) (got : List ℕ) (aq rl : Ann)
-      → IsFixedAt P (Fixed (atomic_ops k extent got aq rl (latest p bs)))
+      → IsFixedAt P (Fixed (atomic_ops k extent got aq rl (find p bs)))
   atomic_at p k extent got aq rl ops v q d i f =
-      let l : ops ≡ atomic_ops k extent got aq rl (latest p bs) = cc in
-      at (latest p bs) refl (subst (λ (z : List Op). In v z) l i)
+      let l : ops ≡ atomic_ops k extent got aq rl (find p bs) = cc in
+      at (find p bs) refl (subst (λ (z : List Op). In v z) l i)
     where
-      at : (o : Option OpenReport) → latest p bs ≡ o → In v (atomic_ops k extent got aq rl o) → P q
+      at : (o : Option OpenReport) → find p bs ≡ o → In v (atomic_ops k extent got aq rl o) → P q
       at None s i = absurd i
       at (Some r) s (inr i) = absurd i
       at (Some r) s (inl e) =

@@ -17,7 +17,7 @@ use Rattle.growth_laws.specs.Growth.{SameMembers, IsAbove, IsPartOf, PerformsPar
 use Rattle.trace_model.proofs.AreEntries.{AreEntries, one_store, ops_once}
 use Rattle.growth_laws.proofs.Places.{not_both}
 use Rattle.trace_model.specs.Groups.{Access, op_of, same_place, part_at, some_below}
-use Rattle.trace_model.specs.Entries.{Stores, Entry, Places, keys_of, built}
+use Rattle.trace_model.specs.Entries.{Stores, Entry, Places, byte_places, built}
 use Rattle.trace_model.proofs.Groups.{fun_ext, same_is, same_self, some_yes, some_there, whole_op, named_op}
 use Rattle.trace_model.proofs.Entries.{Comes, is_fixed, is_stored, comes, goes, key_back, covers_at, at_covers}
 use Rattle.trace_model.proofs.Entries.{put_at_part}
@@ -71,16 +71,16 @@ module _ (es : List Entry) (early : List Op) (granule : ℕ) (g g' : Places) (a 
   t' = built es g' early granule
 
   abbrev o : Op
-  o = part_at a (keys_of g a) None
+  o = part_at a (byte_places g a) None
 
   abbrev pub part : Op
-  part = part_at a (keys_of g' a) (Some p)
+  part = part_at a (byte_places g' a) (Some p)
 
   abbrev left : Op
-  left = part_at a (keys_of g' a) None
+  left = part_at a (byte_places g' a) None
 
   abbrev has_left : Bool
-  has_left = some_below (λ k. same_place (keys_of g' a k) None) a.extent.len
+  has_left = some_below (λ k. same_place (byte_places g' a k) None) a.extent.len
 
   abbrev pub rest : Option Op
   rest = rest_at has_left left
@@ -91,30 +91,31 @@ module _ (es : List Entry) (early : List Op) (granule : ℕ) (g g' : Places) (a 
   k0_in : k0 < a.extent.len
   k0_in = let i = m.inside m.some.0 m.some.1 in omega (arith, i.0, i.1)
 
-  k0_was : keys_of g a k0 ≡ None
+  k0_was : byte_places g a k0 ≡ None
   k0_was = key_back g a None m.some.0 (m.inside m.some.0 m.some.1).0 ∙ m.was m.some.0 m.some.1
 
-  k0_is : keys_of g' a k0 ≡ Some p
+  k0_is : byte_places g' a k0 ≡ Some p
   k0_is = key_back g' a None m.some.0 (m.inside m.some.0 m.some.1).0 ∙ m.is m.some.0 m.some.1
 
-  stored_in : (k : ℕ) (q : Option Place) → k < a.extent.len → keys_of g a k ≡ q → In (part_at a (keys_of g a) q) t.ops
-  stored_in k q l f = goes g es (part_at a (keys_of g a) q)
-      (is_stored e a k there doing l (ap (part_at a (keys_of g a)) (sym f)))
+  stored_in : (k : ℕ) (q : Option Place) → k < a.extent.len → byte_places g a k ≡ q
+      → In (part_at a (byte_places g a) q) t.ops
+  stored_in k q l f = goes g es (part_at a (byte_places g a) q)
+      (is_stored e a k there doing l (ap (part_at a (byte_places g a)) (sym f)))
 
-  stored_in' : (k : ℕ) (q : Option Place) → k < a.extent.len → keys_of g' a k ≡ q → In (part_at a (keys_of g' a) q)
-      t'.ops
-  stored_in' k q l f = goes g' es (part_at a (keys_of g' a) q)
-      (is_stored e a k there doing l (ap (part_at a (keys_of g' a)) (sym f)))
+  stored_in' : (k : ℕ) (q : Option Place) → k < a.extent.len → byte_places g' a k ≡ q
+      → In (part_at a (byte_places g' a) q) t'.ops
+  stored_in' k q l f = goes g' es (part_at a (byte_places g' a) q)
+      (is_stored e a k there doing l (ap (part_at a (byte_places g' a)) (sym f)))
 
   -- p is new
-  new : (k : ℕ) → k < a.extent.len → keys_of g a k ≡ Some p → ⊥
+  new : (k : ℕ) → k < a.extent.len → byte_places g a k ≡ Some p → ⊥
   new k l f =
-      let n : Op = part_at a (keys_of g a) (Some p) in
+      let n : Op = part_at a (byte_places g a) (Some p) in
       both_ways _ (place_self p) (below n p (in_left t.ops early n (stored_in k (Some p) l f)) refl)
 
   -- the bytes at another place are the same
   same_test : (r : Place) (k : ℕ) → (Some p ≡ Some r → ⊥) → (c : Bool) → b (a.extent.addr + k) ≡ c
-      → same_place (keys_of g a k) (Some r) ≡ same_place (keys_of g' a k) (Some r)
+      → same_place (byte_places g a k) (Some r) ≡ same_place (byte_places g' a k) (Some r)
   same_test r k ne true f = rw (m.was (a.extent.addr + k) f, m.is (a.extent.addr + k) f)
       (at (same_place (Some p) (Some r)) refl)
     where
@@ -123,19 +124,20 @@ module _ (es : List Entry) (early : List Op) (granule : ℕ) (g g' : Places) (a 
       at false q = sym q
   same_test r k ne false f = ap (λ z. same_place z (Some r)) (sym (m.stays (a.extent.addr + k) f))
 
-  same_part : (r : Place) → (Some p ≡ Some r → ⊥) → part_at a (keys_of g a) (Some r) ≡ part_at a (keys_of g' a) (Some r)
+  same_part : (r : Place) → (Some p ≡ Some r → ⊥)
+      → part_at a (byte_places g a) (Some r) ≡ part_at a (byte_places g' a) (Some r)
   same_part r ne = ap (λ (f : ℕ → Bool). op_of a f (Some r))
       (fun_ext _ _ (λ k. same_test r k ne (b (a.extent.addr + k)) refl))
 
   -- the store of an entry is a, or its bytes are where they were
   abbrev IsOther : Access → Type 0
-  IsOther c = keys_of g c ≡ keys_of g' c
+  IsOther c = byte_places g c ≡ byte_places g' c
 
   which : (f : Entry) (c : Access) → In f es → f.memory ≡ Stores c → (c ≡ a) ⊎ IsOther c
   which f c i d = at (eqb c.hart a.hart) refl (eqb c.tag a.tag) refl
     where
       other : (c.hart ≡ a.hart → c.tag ≡ a.tag → ⊥) → IsOther c
-      other ne = fun_ext (keys_of g c) (keys_of g' c) (λ k. sym (m.others c.hart c.tag (c.extent.addr + k) ne))
+      other ne = fun_ext (byte_places g c) (byte_places g' c) (λ k. sym (m.others c.hart c.tag (c.extent.addr + k) ne))
 
       at : (x : Bool) → eqb c.hart a.hart ≡ x → (y : Bool) → eqb c.tag a.tag ≡ y → (c ≡ a) ⊎ IsOther c
       at true q true r = inl (one_store es good e f a c there i doing d (eqb-true _ _ q) (eqb-true _ _ r))
@@ -143,19 +145,20 @@ module _ (es : List Entry) (early : List Op) (granule : ℕ) (g g' : Places) (a 
       at false q y r = inr (other (λ u v. both_ways _ q (eq-eqb _ _ u)))
 
   abbrev IsPart : Places → Access → Op → Type 0
-  IsPart h c v = (k : ℕ) × (k < c.extent.len) × (v ≡ part_at c (keys_of h c) (keys_of h c k))
+  IsPart h c v = (k : ℕ) × (k < c.extent.len) × (v ≡ part_at c (byte_places h c) (byte_places h c k))
 
   -- an operation of a goes on: the bytes that are not performed are o
   on_part : (v : Op) → IsPart g a v → (v ≡ o) ⊎ In v t'.ops
-  on_part v r = at (keys_of g a r.0) refl (b (a.extent.addr + r.0)) refl
+  on_part v r = at (byte_places g a r.0) refl (b (a.extent.addr + r.0)) refl
     where
-      at : (q : Option Place) → keys_of g a r.0 ≡ q → (c : Bool) → b (a.extent.addr + r.0) ≡ c → (v ≡ o) ⊎ In v t'.ops
-      at None f c j = inl (r.2 ∙ ap (part_at a (keys_of g a)) f)
+      at : (q : Option Place) → byte_places g a r.0 ≡ q → (c : Bool) → b (a.extent.addr + r.0) ≡ c
+          → (v ≡ o) ⊎ In v t'.ops
+      at None f c j = inl (r.2 ∙ ap (part_at a (byte_places g a)) f)
       at (Some q) f true j = absurd (let z : None ≡ Some q = sym (m.was (a.extent.addr + r.0) j) ∙ f in cc)
       at (Some q) f false j =
-          let i : In (part_at a (keys_of g' a) (Some q)) t'.ops =
+          let i : In (part_at a (byte_places g' a) (Some q)) t'.ops =
           stored_in' r.0 (Some q) r.1 (m.stays (a.extent.addr + r.0) j ∙ f) in
-          let s : v ≡ part_at a (keys_of g' a) (Some q) = r.2 ∙ ap (part_at a (keys_of g a)) f
+          let s : v ≡ part_at a (byte_places g' a) (Some q) = r.2 ∙ ap (part_at a (byte_places g a)) f
           ∙ same_part q (λ z. new r.0 r.1 (f ∙ sym z)) in
           inr (subst (λ (z : Op). In z t'.ops) (sym s) i)
 
@@ -167,20 +170,20 @@ module _ (es : List Entry) (early : List Op) (granule : ℕ) (g g' : Places) (a 
         (s ∙ ap (λ (h : ℕ → Option Place). part_at c h (h k)) other)))
   ]
 
-  has_rest : (k : ℕ) → k < a.extent.len → keys_of g' a k ≡ None → rest ≡ Some left
-  has_rest k l f = ap (λ c. rest_at c left) (some_there (λ k. same_place (keys_of g' a k) None) a.extent.len k l
+  has_rest : (k : ℕ) → k < a.extent.len → byte_places g' a k ≡ None → rest ≡ Some left
+  has_rest k l f = ap (λ c. rest_at c left) (some_there (λ k. same_place (byte_places g' a k) None) a.extent.len k l
       (ap (λ z. same_place z None) f))
 
   back_part : (v : Op) → IsPart g' a v → (v ≡ part) ⊎ (rest ≡ Some v) ⊎ In v t.ops
-  back_part v r = at (keys_of g' a r.0) refl (b (a.extent.addr + r.0)) refl
+  back_part v r = at (byte_places g' a r.0) refl (b (a.extent.addr + r.0)) refl
     where
-      at : (q : Option Place) → keys_of g' a r.0 ≡ q → (c : Bool) → b (a.extent.addr + r.0) ≡ c → (v ≡ part)
+      at : (q : Option Place) → byte_places g' a r.0 ≡ q → (c : Bool) → b (a.extent.addr + r.0) ≡ c → (v ≡ part)
           ⊎ (rest ≡ Some v) ⊎ In v t.ops
-      at q f true j = inl (r.2 ∙ ap (part_at a (keys_of g' a)) (m.is (a.extent.addr + r.0) j))
-      at None f false j = inr (inl (has_rest r.0 r.1 f ∙ ap Some (sym (r.2 ∙ ap (part_at a (keys_of g' a)) f))))
+      at q f true j = inl (r.2 ∙ ap (part_at a (byte_places g' a)) (m.is (a.extent.addr + r.0) j))
+      at None f false j = inr (inl (has_rest r.0 r.1 f ∙ ap Some (sym (r.2 ∙ ap (part_at a (byte_places g' a)) f))))
       at (Some q) f false j =
-          let was : keys_of g a r.0 ≡ Some q = sym (m.stays (a.extent.addr + r.0) j) ∙ f in
-          let s : v ≡ part_at a (keys_of g a) (Some q) = r.2 ∙ ap (part_at a (keys_of g' a)) f
+          let was : byte_places g a r.0 ≡ Some q = sym (m.stays (a.extent.addr + r.0) j) ∙ f in
+          let s : v ≡ part_at a (byte_places g a) (Some q) = r.2 ∙ ap (part_at a (byte_places g' a)) f
           ∙ sym (same_part q (λ z. new r.0 r.1 (was ∙ sym z))) in
           inr (inr (subst (λ (z : Op). In z t.ops) (sym s) (stored_in r.0 (Some q) r.1 was)))
 
@@ -200,18 +203,18 @@ module _ (es : List Entry) (early : List Op) (granule : ℕ) (g g' : Places) (a 
   gone (is_stored f c k i d l s) =
       let same : c ≡ a = one_store es good e f a c there i doing d (sym (ap (λ (z : Op). z.name.hart) s))
       (sym (ap (λ (z : Op). z.name.tag) s)) in
-      let none : keys_of g' c k ≡ None = sym (ap (λ (z : Op). z.place) s) in
-      let is : o ≡ part_at a (keys_of g' a) None = s ∙ ap (part_at c (keys_of g' c)) none
-      ∙ ap (λ (z : Access). part_at z (keys_of g' z) None) same in
+      let none : byte_places g' c k ≡ None = sym (ap (λ (z : Op). z.place) s) in
+      let is : o ≡ part_at a (byte_places g' a) None = s ∙ ap (part_at c (byte_places g' c)) none
+      ∙ ap (λ (z : Access). part_at z (byte_places g' z) None) same in
       let c : has_byte m.some.0 o ≡ true = covers_at g a None m.some.0 x0_in (m.was m.some.0 m.some.1) in
       let z : None ≡ Some p = sym (at_covers g' a None m.some.0 (subst (λ (z : Op). has_byte m.some.0 z ≡ true) is c)).1
       ∙ m.is m.some.0 m.some.1 in
       cc
 
   -- the bytes at q are part of o, where all of them were not performed
-  part_of : (q : Option Place) (k : ℕ) → k < a.extent.len → keys_of g' a k ≡ q
+  part_of : (q : Option Place) (k : ℕ) → k < a.extent.len → byte_places g' a k ≡ q
       → ((x : ℕ) → InExtent o x → g' a.hart a.tag x ≡ q → g a.hart a.tag x ≡ None)
-      → IsPartOf (part_at a (keys_of g' a) q) o
+      → IsPartOf (part_at a (byte_places g' a) q) o
   part_of q k l f from = record {
     same = (refl, refl);
     kind = refl;
@@ -222,12 +225,12 @@ module _ (es : List Entry) (early : List Op) (granule : ℕ) (g g' : Places) (a 
         let r = at_covers g' a q x c in
         let d : has_byte x o ≡ true = covers_at g a None x r.0 (from x r.0 r.1) in
         (d, put_at_part g' a q x c ∙ sym (put_at_part g a None x d));
-    whole = let s = (good.each e there).sized a doing in whole_op a (λ j. same_place (keys_of g' a j) q) q k l (passes)
-        s.0 s.1;
-    named = named_op a (λ j. same_place (keys_of g' a j) q) q k l (passes);
+    whole = let s = (good.each e there).sized a doing in
+        whole_op a (λ j. same_place (byte_places g' a j) q) q k l (passes) s.0 s.1;
+    named = named_op a (λ j. same_place (byte_places g' a j) q) q k l (passes);
   }
     where
-      passes : same_place (keys_of g' a k) q ≡ true
+      passes : same_place (byte_places g' a k) q ≡ true
       passes = rw f (same_self q)
 
   from_p : (x : ℕ) → InExtent o x → g' a.hart a.tag x ≡ Some p → g a.hart a.tag x ≡ None
@@ -246,12 +249,12 @@ module _ (es : List Entry) (early : List Op) (granule : ℕ) (g g' : Places) (a 
       at false j = sym (m.stays x j) ∙ f
 
   -- where something is left, it is that
-  is_left : (v : Op) → rest ≡ Some v → (left ≡ v) × ((k : ℕ) × (k < a.extent.len) × (keys_of g' a k ≡ None))
+  is_left : (v : Op) → rest ≡ Some v → (left ≡ v) × ((k : ℕ) × (k < a.extent.len) × (byte_places g' a k ≡ None))
   is_left v r = at has_left refl r
     where
       at : (c : Bool) → has_left ≡ c → rest_at c left ≡ Some v → (left ≡ v)
-          × ((k : ℕ) × (k < a.extent.len) × (keys_of g' a k ≡ None))
-      at true j r = let y = some_yes (λ k. same_place (keys_of g' a k) None) a.extent.len j in
+          × ((k : ℕ) × (k < a.extent.len) × (byte_places g' a k ≡ None))
+      at true j r = let y = some_yes (λ k. same_place (byte_places g' a k) None) a.extent.len j in
           ((cc), (y.0, y.1, same_is _ None y.2))
       at false j r = absurd (cc)
 

@@ -2,7 +2,7 @@
 use Rattle.std.proofs.Common.{ℕ, zero, suc, length-append, ◌+◌, ◌%◌, ◌<◌, ◌≤◌, ◌≡◌, ◌⊎◌, inl, inr, Bool, true}
 use Rattle.std.proofs.Common.{false, not, eqb, cond, List, [], ◌∷◌, length, map, replicate}
 use Rattle.std.proofs.Common.{Option, Some, None, is_some, refl, sym, ap, subst, ◌∙◌, arith}
-use Rattle.std.specs.List.{Contains, filter}
+use Rattle.std.specs.List.{Contains, filter, cons_option, find}
 use Rattle.std.proofs.lemmas.Bool.{false≢true, both_ways, and_parts, and_from, eqb-true, eq-eqb}
 use Rattle.std.proofs.lemmas.List.{length-replicate}
 use Rattle.tandem_base.specs.declared.extent.Extent.{Extent}
@@ -30,16 +30,15 @@ use Rattle.growth_laws.specs.Kinds.{kind_of_insn, kind_of_retired, IsNamed}
 use Rattle.growth_laws.specs.Growth.{SameMembers, AreOf, Adds, adds_loads, adds_store, adds_atomic, adds_nothing}
 use Rattle.matching.specs.declared.reports.OpenReport.{OpenReport}
 use Rattle.matching.specs.declared.run.Pair.{Pair}
-use Rattle.matching.specs.Searches.{latest}
 use Rattle.matching.specs.Reports.{is_report, early_of, is_for, counting, place_of_report, place_counted, byte_counted}
 use Rattle.matching.specs.Reports.{bytes_counted}
 use Rattle.trace_model.specs.Extents.{extent_of}
 use Rattle.trace_model.specs.Groups.{Access, part_at}
-use Rattle.trace_model.specs.Entries.{Fixed, Stores, Entry, Places, keys_of, memory_ops, entry_ops, insns_of, built}
+use Rattle.trace_model.specs.Entries.{Fixed, Stores, Entry, Places, byte_places, memory_ops, entry_ops, insns_of, built}
 use Rattle.trace_model.specs.Retirements.{acquire_of, release_of, load_access, read_places, load_ops, store_access}
 use Rattle.trace_model.specs.Retirements.{bypass_access, bypass_op, atomic_ops, entry, entry_of}
 use Rattle.trace_model.specs.Growths.{GrownBy}
-use Rattle.trace_model.specs.Traces.{early_extent, early_op, with_entry}
+use Rattle.trace_model.specs.Traces.{early_extent, early_op}
 use Rattle.trace_model.proofs.Lists.{In, listed, contained, in_left, in_right, in_cases, in_flat, from_map, from_filter}
 use Rattle.trace_model.proofs.Extents.{extent_is}
 use Rattle.trace_model.proofs.Groups.{whole_op, named_op, covers_parts}
@@ -63,13 +62,13 @@ counted_length live t addr (suc n) =
     ∙ (let e = counted_length live t addr n in let s : length (bytes_counted live t addr n) + 1 ≡ suc n =
     omega (arith, e) in s)
 
-latest_none : (p : OpenReport → Bool) (rs : List OpenReport) → latest p rs ≡ None → (r : OpenReport) → In r rs
+latest_none : (p : OpenReport → Bool) (rs : List OpenReport) → find p rs ≡ None → (r : OpenReport) → In r rs
     → p r ≡ false
 latest_none p [] e r i = absurd i
 latest_none p (s ∷ rs) e r i = at (p s) refl e i (latest_none p rs)
   where
-    at : (c : Bool) → p s ≡ c → cond c (Some s) (latest p rs) ≡ None → In r (s ∷ rs)
-        → (latest p rs ≡ None → (r : OpenReport) → In r rs → p r ≡ false) → p r ≡ false
+    at : (c : Bool) → p s ≡ c → cond c (Some s) (find p rs) ≡ None → In r (s ∷ rs)
+        → (find p rs ≡ None → (r : OpenReport) → In r rs → p r ≡ false) → p r ≡ false
     at true q e i rec = absurd (cc)
     at false q e (inl same) rec = ap p same ∙ q
     at false q e (inr j) rec = rec e r j
@@ -100,7 +99,7 @@ module _ (es : List Entry) (g : Places) (live early : List OpenReport) (pair : O
   t = built es g (map early_op early) granule
 
   abbrev pub after : Option Entry → Trace
-  after o = built (with_entry o es) g (map early_op others) granule
+  after o = built (cons_option o es) g (map early_op others) granule
 
   -- what a Retire does
   abbrev Grown : Option Entry → Type 0
@@ -225,7 +224,7 @@ module _ (es : List Entry) (g : Places) (live early : List OpenReport) (pair : O
     pub adds_a_store : IsEntry stored_entry → HasNone early head → IsStore insn → length put ≡ extent.len
         → ((x : ℕ) → g head.hart head.tag x ≡ None) → Grown (Some stored_entry)
     adds_a_store k none is size unperformed =
-        let keys : ℕ → Option Place = keys_of g stored_access in
+        let keys : ℕ → Option Place = byte_places g stored_access in
         more insn false (Stores stored_access) k
         (are_of stored_access keys stored_entry.insn refl refl is.stores (length-replicate extent.len 0) size)
         (adds_store (part_at stored_access keys None)

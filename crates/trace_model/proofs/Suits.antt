@@ -14,7 +14,7 @@ use Rattle.rv_step.specs.Promises.{is_plain, reads_counter}
 use Rattle.matching.specs.declared.run.Pair.{Pair}
 use Rattle.matching.specs.declared.reports.OpenReport.{OpenReport}
 use Rattle.matching.specs.Settings.{last_time}
-use Rattle.matching.specs.Pieces.{has}
+use Rattle.msg_frames.specs.Pieces.{has}
 use Rattle.matching.specs.Tags.{is_early, is_younger, last_tag}
 use Rattle.matching.specs.Reports.{is_report, live, early, counting}
 use Rattle.matching.specs.Runs.{run_of, doing_at}

@@ -19,7 +19,8 @@ use Rattle.matching.specs.declared.stores.Fate.{Fate}
 use Rattle.matching.specs.declared.stores.Held.{Held}
 use Rattle.matching.specs.declared.stores.Fate.TheVariants.{Nothing, Waiting, Done}
 use Rattle.matching.specs.Settings.{number_after}
-use Rattle.matching.specs.Pieces.{has, line_start}
+use Rattle.msg_frames.specs.Pieces.{has}
+use Rattle.matching.specs.Pieces.{line_start}
 use Rattle.matching.specs.Fates.{waiting_in, waiting, fate}
 use Rattle.trace_model.proofs.Fresh.{AreFresh}
 use Rattle.trace_model.specs.Entries.{Entry, Stores, Places, built}

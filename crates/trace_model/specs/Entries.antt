@@ -24,13 +24,13 @@ abbrev pub Places : Type 0
 Places = ℕ → ℕ → ℕ → Option Place
 
 -- where byte k of the access of a plain store was performed
-abbrev pub keys_of : Places → Access → ℕ → Option Place
-keys_of g a k = g a.hart a.tag (a.extent.addr + k)
+abbrev pub byte_places : Places → Access → ℕ → Option Place
+byte_places g a k = g a.hart a.tag (a.extent.addr + k)
 
 -- the operations of an instruction
 abbrev pub memory_ops : Places → MemoryUse → List Op
 memory_ops g (Fixed ops) = ops
-memory_ops g (Stores a) = parts_of a (keys_of g a)
+memory_ops g (Stores a) = parts_of a (byte_places g a)
 
 -- those of an entry
 abbrev pub entry_ops : Places → Entry → List Op
@@ -45,3 +45,14 @@ insns_of (e ∷ es) = insns_of es ++ e.insn ∷ []
 abbrev pub built : List Entry → Places → List Op → ℕ → Trace
 built entries g early granule =
     record { insns = insns_of entries; ops = flat_map (entry_ops g) entries; early = early; granule = granule }
+
+-- what an instruction did to memory in front of what others did, where it did something
+abbrev pub with_use : MemoryUse → List MemoryUse → List MemoryUse
+with_use (Fixed []) us = us
+with_use (Fixed (o ∷ ops)) us = Fixed (o ∷ ops) ∷ us
+with_use (Stores a) us = Stores a ∷ us
+
+-- what the instructions did to memory, of those that did something; the newest first, as the entries
+abbrev pub uses_of : List Entry → List MemoryUse
+uses_of [] = []
+uses_of (e ∷ es) = with_use e.memory (uses_of es)

@@ -2,11 +2,8 @@
 use Rattle.std.specs.Prelude.{ℕ, zero, suc, ◌+◌, ◌*◌, ◌==◌, ◌&&◌, ◌||◌, List, [], ◌∷◌, Bool, true, false, None, Some}
 use Rattle.std.specs.Prelude.{if◌then◌else◌}
 use Rattle.std.specs.declared.option.Option.{Option}
-use Rattle.tandem_base.specs.declared.extent.Extent.{Extent}
 use Rattle.tandem_base.specs.declared.names.Place.{Place}
 use Rattle.rvwmo_model.specs.declared.operations.Op.{Op}
-use Rattle.rvwmo_model.specs.declared.operations.OpKind.{OpKind}
-use Rattle.rvwmo_model.specs.declared.operations.Ann.{Ann}
 pub use Rattle.trace_model.specs.declared.access.Access.{Access}
 
 -- bit i is set where k + i passes, for the n numbers from k up

@@ -4,6 +4,7 @@ use Rattle.msg_frames.specs.declared.message.Message.{Message}
 use Rattle.elf_image.specs.Images.{Loaded}
 use Rattle.growth_laws.specs.Kinds.{WellKinded}
 use Rattle.growth_laws.specs.Growth.{Grows}
+use Rattle.matching.specs.declared.stores.Fate.{Fate}
 use Rattle.matching.specs.Counts.{reads_of, stores_of}
 use Rattle.matching.specs.Fates.{fate}
 use Rattle.matching.specs.Matching.{IsClean}
@@ -24,6 +25,11 @@ ListsGrow = (image : Loaded) (later before : List Message) → IsClean image (la
 -- what became of a byte is what the messages tell, also where the list isn't clean
 abbrev pub FatesAreTold : Type 0
 FatesAreTold = (messages : List Message) (h t x : ℕ) → IsFate messages h t x (fate messages h t x)
+
+-- the messages of a clean list tell one fate of each byte
+abbrev pub FatesAreOne : Type 0
+FatesAreOne = (image : Loaded) (messages : List Message) (h t x : ℕ) (f g : Fate) → IsClean image messages
+    → IsFate messages h t x f → IsFate messages h t x g → f ≡ g
 
 -- the counts of hart h after one more message are those before it
 pub record CountsStay (image : Loaded) (before : List Message) (m : Message) (h : ℕ) : Type 0 where

@@ -1,11 +1,12 @@
+pub mod Breaking
 pub mod Entries
 pub mod Extents
 pub mod FirstWrites
 pub mod GroupLaws
 pub mod Groups
 pub mod Growths
+pub mod Histories
 pub mod Kept
-pub mod KeptOps
 pub mod LaterPlaces
 pub mod Laws
 pub mod Marks
@@ -14,4 +15,5 @@ pub mod PlainTraces
 pub mod Positions
 pub mod Retirements
 pub mod Seen
+pub mod Tracers
 pub mod Traces

@@ -5,7 +5,7 @@ use Rattle.msg_frames.specs.declared.message.Piece.{Piece}
 use Rattle.rvwmo_model.specs.declared.operations.Op.{Op}
 use Rattle.rvwmo_model.specs.Order.{has_byte}
 use Rattle.matching.specs.declared.stores.Held.{Held}
-use Rattle.matching.specs.Pieces.{has}
+use Rattle.msg_frames.specs.Pieces.{has}
 
 -- o is of the instruction of hart h under tag t, performed at p, and its bytes are those of the piece
 pub record IsPartFor (h t : ℕ) (p : Place) (piece : Piece) (o : Op) : Type 0 where

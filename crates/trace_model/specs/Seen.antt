@@ -1,24 +1,24 @@
--- Entries as the code keeps them, and what they stand for.
-use Rattle.std.specs.Prelude.{ℕ, ◌≡◌, List, [], ◌∷◌, reverse, map, true, Some, None}
+-- What instructions did to memory as the code keeps it, and what that stands for.
+use Rattle.std.specs.Prelude.{◌≡◌, [], ◌∷◌, true, Some, None}
 use Rattle.std.specs.declared.option.Option.{Option}
 use Rattle.msg_frames.specs.declared.message.Piece.{Piece}
-use Rattle.msg_frames.specs.declared.message.Message.{Message}
-use Rattle.elf_image.specs.Images.{Loaded}
 use Rattle.rv_step.specs.Steps.{Doing, trap, plain, counter, load, store, lr, sc, amo}
-use Rattle.trace_model.specs.declared.retirements.TraceEntry.{TraceEntry}
-use Rattle.trace_model.specs.declared.retirements.TraceEntry.TheVariants as kept
+use Rattle.trace_model.specs.declared.retirements.KeptUse.{KeptUse}
+use Rattle.trace_model.specs.declared.retirements.KeptUse.TheVariants as kept_use
 use Rattle.trace_model.specs.Groups.{op_of, parts_of}
 use Rattle.trace_model.specs.Marks.{place_in}
-use Rattle.trace_model.specs.Entries.{MemoryUse, Fixed, Stores, Entry}
+use Rattle.trace_model.specs.Entries.{MemoryUse, Fixed, Stores}
 
--- an instruction with what it did to memory
-abbrev pub entry_seen : TraceEntry → Entry
-entry_seen (kept.Quiet insn) = record { insn = insn; memory = Fixed [] }
-entry_seen (kept.Loaded insn access places) =
-    record { insn = insn; memory = Fixed (parts_of access (place_in places)) }
-entry_seen (kept.Stored insn access) = record { insn = insn; memory = Stores access }
-entry_seen (kept.Whole insn access place) =
-    record { insn = insn; memory = Fixed (op_of access (λ k. true) (Some place) ∷ []) }
+-- what an instruction did to memory
+abbrev pub use_seen : KeptUse → MemoryUse
+use_seen (kept_use.Loaded access places) = Fixed (parts_of access (place_in places))
+use_seen (kept_use.Stored access) = Stores access
+use_seen (kept_use.Whole access place) = Fixed (op_of access (λ k. true) (Some place) ∷ [])
+
+-- where none is kept it did nothing
+abbrev pub memory_seen : Option KeptUse → MemoryUse
+memory_seen None = Fixed []
+memory_seen (Some used) = use_seen used
 
 -- a plain store has bytes that it stores
 abbrev pub HasStored : Doing → Option Piece → Type 0

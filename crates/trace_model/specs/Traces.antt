@@ -1,5 +1,6 @@
 -- The completed trace of a list of messages. The list has the newest first.
 use Rattle.std.specs.Prelude.{ℕ, List, [], ◌∷◌, length, map, replicate, None, Some}
+use Rattle.std.specs.List.{cons_option}
 use Rattle.std.specs.declared.option.Option.{Option}
 use Rattle.tandem_base.specs.declared.extent.Extent.{Extent}
 use Rattle.msg_frames.specs.declared.message.Head.{Head}
@@ -47,15 +48,10 @@ entry_in image before head (body.Retire retire) =
 entry_in image before head body.Squash = None
 entry_in image before head body.End = None
 
--- one entry more, where there is one
-abbrev pub with_entry : Option Entry → List Entry → List Entry
-with_entry None es = es
-with_entry (Some e) es = e ∷ es
-
 -- the instructions that retired without a trap, with what they did to memory; the newest first
 abbrev pub entries : Loaded → List Message → List Entry
 entries image [] = []
-entries image (m ∷ before) = with_entry (entry_in image before m.head m.body) (entries image before)
+entries image (m ∷ before) = cons_option (entry_in image before m.head m.body) (entries image before)
 
 -- where each byte of each plain store was performed
 abbrev pub places : List Message → Places

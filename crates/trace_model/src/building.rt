@@ -1,33 +1,31 @@
 //! The lists of a trace, made of what was kept of its messages.
 
-ghost use Rattle.std.specs.Prelude.{◌≡◌, ◌++◌, ◌+◌, ◌<◌, ℕ, List, map, reverse, IfOk, OnOk, nat_lt, Some};
+ghost use Rattle.std.specs.Prelude.{◌≡◌, ◌++◌, ◌<◌, ◌≤◌, List, length, map, reverse, IfOk, OnOk};
 ghost use Rattle.std.specs.List.{flat_map};
 ghost use Rattle.elf_image.specs.Images.{Loaded};
 ghost use Rattle.msg_frames.specs.declared.message.Message.{Message};
 ghost use Rattle.matching.specs.Fates as Fates;
 ghost use Rattle.matching.specs.Tables.{Stands, fate_in_store};
-ghost use Rattle.trace_model.specs.Entries.{insns_of};
 ghost use Rattle.trace_model.specs.Extents as Extents;
-ghost use Rattle.trace_model.specs.KeptOps.{ops_kept, place_tracked, tracked_in};
+ghost use Rattle.trace_model.specs.Tracers.{ops_seen, place_tracked, tracked_in};
 ghost use Rattle.trace_model.specs.Marks.{eight};
-ghost use Rattle.trace_model.specs.Seen.{entry_seen};
 ghost use Rattle.trace_model.specs.Traces as Traces;
 
 use super::access::Access;
-use super::parts::{push_parts, whole_op};
-use super::retirements::{TraceEntry, bypass_access, place_of_report, zeros};
+use super::parts::{count_parts, push_parts, whole_op};
+use super::retirements::{KeptUse, bypass_access, place_of_report, zeros};
 use matching::{Fate, Matching, OpenReport, Tracked, store_under};
-use rvwmo_model::{Ann, InsnList, Op, OpKind, OpList};
+use rvwmo_model::{Ann, InsnList, Op, OpKind, OpList, Retired};
 use std::alloc::{AllocError, Global};
 use tandem_base::{Extent, Place};
 
-/// The instructions of some entries.
-pub fn insns(alloc: Global, entries: &[TraceEntry]) -> Result<InsnList, AllocError>
-    ensures { IfOk result (λ list. list ≡ insns_of (map entry_seen (reverse entries.now))) }
+/// A list of these instructions.
+pub fn insns(alloc: Global, insns: &[Retired]) -> Result<InsnList, AllocError>
+    ensures { IfOk result (λ list. list ≡ insns.now) }
 {
     let mut list = InsnList::new(alloc);
-    for entry in entries {
-        list.push(entry.insn())?;
+    for insn in insns {
+        list.push(*insn)?;
     }
     Ok(list)
 }
@@ -81,37 +79,64 @@ fn tracked_store(matching: &Matching, access: &Access) -> Option<Tracked>
     }
 }
 
-/// Puts the operations of an entry at the end of a list.
-fn push_ops(list: &mut OpList, entry: &TraceEntry, matching: &Matching) -> Result<(), AllocError>
+/// Puts the operations of what an instruction did at the end of a list.
+fn push_ops(list: &mut OpList, used: &KeptUse, matching: &Matching) -> Result<(), AllocError>
     ensures { (image : Loaded) (before : List Message) → Stands image matching.now before →
-        OnOk result (list.new ≡ list.old ++ ops_kept image before entry.now) }
+        OnOk result (list.new ≡ list.old ++ ops_seen image before used.now) }
 {
-    match entry {
-        TraceEntry::Quiet(_) => Ok(()),
-        TraceEntry::Loaded(_, access, places) => push_parts(list, access, places),
-        TraceEntry::Stored(_, access) => {
+    match used {
+        KeptUse::Loaded(access, places) => push_parts(list, access, places),
+        KeptUse::Stored(access) => {
             let tracked = tracked_store(matching, access);
             push_parts(list, access, &places_of(&tracked))
         }
-        TraceEntry::Whole(_, access, place) => {
+        KeptUse::Whole(access, place) => {
             list.push(whole_op(access, *place))?;
             Ok(())
         }
     }
 }
 
-/// The operations of some entries.
-pub fn ops(alloc: Global, entries: &[TraceEntry], matching: &Matching) -> Result<OpList, AllocError>
+/// The operations of what some instructions did.
+pub fn ops(alloc: Global, uses: &[KeptUse], matching: &Matching) -> Result<OpList, AllocError>
     ensures { (image : Loaded) (before : List Message) → Stands image matching.now before →
-        IfOk result (λ list. list ≡ flat_map (ops_kept image before) (reverse entries.now)) }
+        IfOk result (λ list. list ≡ flat_map (ops_seen image before) (reverse uses.now)) }
 {
     let mut list = OpList::new(alloc);
-    let mut n = entries.len();
+    let mut n = uses.len();
     while n > 0 {
         n -= 1;
-        push_ops(&mut list, &entries[n], matching)?;
+        push_ops(&mut list, &uses[n], matching)?;
     }
     Ok(list)
+}
+
+/// How many operations there are of what an instruction did.
+fn count_of(used: &KeptUse, matching: &Matching) -> u64
+    ensures value { (image : Loaded) (before : List Message) → Stands image matching.now before →
+        result ≡ length (ops_seen image before used.now) }
+    ensures bound { result ≤ 8 }
+{
+    match used {
+        KeptUse::Loaded(access, places) => count_parts(access, places),
+        KeptUse::Stored(access) => {
+            let tracked = tracked_store(matching, access);
+            count_parts(access, &places_of(&tracked))
+        }
+        KeptUse::Whole(..) => 1,
+    }
+}
+
+/// How many operations there are of what some instructions did.
+pub fn count_ops(uses: &[KeptUse], matching: &Matching) -> u64
+    ensures { (image : Loaded) (before : List Message) → Stands image matching.now before →
+        result ≡ length (flat_map (ops_seen image before) (reverse uses.now)) }
+{
+    let mut count = 0;
+    for used in uses {
+        count += count_of(used, matching);
+    }
+    count
 }
 
 /// The byte at address 0.

@@ -4,7 +4,7 @@ ghost use Rattle.trace_model.specs.GroupLaws.{OperationsAreGroups};
 ghost use Rattle.trace_model.specs.Growths.{EachMessageGrows, EachMessageIsGrowth};
 ghost use Rattle.trace_model.specs.LaterPlaces.{PlacesOfLater};
 ghost use Rattle.trace_model.specs.Positions.{PlacesAreOrdered, PlacesHaveMessages};
-ghost use Rattle.trace_model.specs.Laws.{FatesAreTold, ListsAreWellKinded, ListsGrow, OthersCount};
+ghost use Rattle.trace_model.specs.Laws.{FatesAreOne, FatesAreTold, ListsAreWellKinded, ListsGrow, OthersCount};
 
 /// The operations of an access group its bytes by where each was performed: each byte is one of exactly
 /// one operation, and no two operations have one place or one name.
@@ -16,6 +16,12 @@ pub fn operations_group_bytes()
 /// performed by the first Write of its line after its Insert, or by a plain Bypass.
 pub fn fates_are_told()
     ensures { FatesAreTold }
+{}
+
+/// Where no message has a fault, the messages tell one fate of each byte of a store: it is in at most one
+/// Insert or plain Bypass.
+pub fn each_byte_has_one_fate()
+    ensures { FatesAreOne }
 {}
 
 /// Each message of a clean list from the second on makes the trace grow as its kind says: an early Bypass

@@ -169,3 +169,17 @@ pub fn push_parts(
     }
     Ok(())
 }
+
+/// How many operations an access has, where `places` says where each of its bytes was performed.
+pub fn count_parts(access: &Access, places: &[Option<Place>; 8]) -> u64
+    ensures value { result ≡ length (Groups.parts_of access.now (place_in places.now)) }
+    ensures bound { result ≤ 8 }
+{
+    let mut count = 0;
+    for n in 0..access.extent.len() {
+        if !is_among_first(places, n, places[usize::from(n)]) {
+            count += 1;
+        }
+    }
+    count
+}

@@ -1,67 +1,31 @@
-//! What an instruction adds to the trace when it retires.
+//! What an instruction does to memory when it retires.
 
-ghost use Rattle.std.specs.Prelude.{◌≡◌, ◌<◌, ℕ, List, OnErr, OnOk, is_some, false, replicate, reverse};
-ghost use Rattle.matching.specs.Searches.{with_new};
-ghost use Rattle.trace_model.specs.declared.retirements.TraceEntry.{TraceEntry};
-ghost use Rattle.std.specs.Option.{option_map};
-ghost use Rattle.rv_step.specs.Plans.{doing_seen};
+ghost use Rattle.std.specs.Prelude.{◌≡◌, ◌<◌, ℕ, replicate, reverse};
 ghost use Rattle.matching.specs.Reports as Reports;
 ghost use Rattle.trace_model.specs.Entries.{Fixed, Stores};
 ghost use Rattle.trace_model.specs.Extents.{extent_of};
 ghost use Rattle.trace_model.specs.Marks.{place_in};
 ghost use Rattle.trace_model.specs.Retirements as Retirements;
-ghost use Rattle.trace_model.specs.Seen.{HasStored, entry_seen};
-ghost use Rattle.trace_model.specs.Traces.{bytes_stored};
+ghost use Rattle.trace_model.specs.Seen.{memory_seen, use_seen};
 
 use super::access::Access;
-use matching::{OpenReport, bytes_read, counting, early_of};
+use matching::{OpenReport, bytes_read, counting};
 use msg_frames::{Head, Piece};
 use rv_decode::Insn;
-use rv_step::What;
-use rvwmo_model::{Ann, OpKind, Retired};
-use std::alloc::AllocError;
+use rvwmo_model::{Ann, OpKind};
 use tandem_base::{Bytes8, Extent, Place};
 
-/// An instruction that retired, with what it did to memory.
+/// What an instruction did to memory, as it is kept.
 #[derive(Clone, Copy, Debug)]
-pub enum TraceEntry {
-    /// It did nothing.
-    Quiet(Retired),
-
+pub enum KeptUse {
     /// It loaded: each of its bytes at the place of the Read that counts.
-    Loaded(Retired, Access, [Option<Place>; 8]),
+    Loaded(Access, [Option<Place>; 8]),
 
     /// It stores, and its bytes are performed later.
-    Stored(Retired, Access),
+    Stored(Access),
 
     /// It was performed whole, at this place.
-    Whole(Retired, Access, Place),
-}
-
-impl TraceEntry {
-    /// The instruction.
-    pub fn insn(&self) -> Retired
-        ensures { result ≡ (entry_seen self.now).insn }
-    {
-        match self {
-            TraceEntry::Quiet(insn) => *insn,
-            TraceEntry::Loaded(insn, _, _) => *insn,
-            TraceEntry::Stored(insn, _) => *insn,
-            TraceEntry::Whole(insn, _, _) => *insn,
-        }
-    }
-}
-
-/// An instruction that retired.
-fn retired(head: &Head, insn: &Insn, stored: bool) -> Retired
-    ensures { result ≡ Retirements.retired head.now insn.now stored }
-{
-    Retired {
-        hart: head.hart,
-        tag: head.tag,
-        insn: *insn,
-        stored,
-    }
+    Whole(Access, Place),
 }
 
 /// An annotation, where there is one.
@@ -153,22 +117,22 @@ fn read_places(live: &[OpenReport], tag: u64, extent: &Extent) -> [Option<Place>
     places
 }
 
-/// The entry of a load or LR.
-fn load_entry(live: &[OpenReport], head: &Head, insn: &Insn, extent: &Extent) -> TraceEntry
-    ensures { entry_seen result ≡ Retirements.entry head.now insn.now false (Fixed (Retirements.load_ops
-        (reverse live.now) head.now insn.now (extent_of extent.now.addr extent.now.len))) }
+/// What a load or LR did.
+pub fn load_use(live: &[OpenReport], head: &Head, insn: &Insn, extent: &Extent) -> KeptUse
+    ensures { use_seen result ≡ Fixed (Retirements.load_ops (reverse live.now) head.now insn.now
+        (extent_of extent.now.addr extent.now.len)) }
 {
     let access = load_access(live, head, insn, extent);
     let places = read_places(live, head.tag, extent);
-    TraceEntry::Loaded(retired(head, insn, false), access, places)
+    KeptUse::Loaded(access, places)
 }
 
-/// The entry of a plain store.
-fn store_entry(head: &Head, insn: &Insn, extent: &Extent, piece: &Piece) -> TraceEntry
-    ensures { entry_seen result ≡ Retirements.entry head.now insn.now false (Stores (Retirements.store_access
-        head.now insn.now (extent_of extent.now.addr extent.now.len) piece.now.bytes)) }
+/// What a plain store does.
+pub fn store_use(head: &Head, insn: &Insn, extent: &Extent, piece: &Piece) -> KeptUse
+    ensures { use_seen result ≡ Stores (Retirements.store_access head.now insn.now
+        (extent_of extent.now.addr extent.now.len) piece.now.bytes) }
 {
-    let access = Access {
+    KeptUse::Stored(Access {
         hart: head.hart,
         tag: head.tag,
         kind: OpKind::Store,
@@ -177,8 +141,7 @@ fn store_entry(head: &Head, insn: &Insn, extent: &Extent, piece: &Piece) -> Trac
         put: piece.bytes,
         acquire: acquire_of(insn),
         release: release_of(insn),
-    };
-    TraceEntry::Stored(retired(head, insn, false), access)
+    })
 }
 
 /// The access of a Bypass over an extent, with what was loaded there.
@@ -204,120 +167,24 @@ pub fn bypass_access(
     }
 }
 
-/// The entry of an AMO or SC, by its Bypass, if it has one.
-fn atomic_entry(
-    insn: Retired,
+/// What an AMO or SC did, by its Bypass; None where it has none.
+pub fn atomic_use(
     kind: OpKind,
+    insn: &Insn,
     extent: &Extent,
     got: Bytes8,
     bypass: &Option<OpenReport>,
-) -> TraceEntry
-    ensures insn { (entry_seen result).insn ≡ insn }
-    ensures memory { (entry_seen result).memory ≡ Fixed (Retirements.atomic_ops kind extent.now got
-        (Retirements.acquire_of insn.insn) (Retirements.release_of insn.insn) bypass.now) }
+) -> Option<KeptUse>
+    ensures { memory_seen result ≡ Fixed (Retirements.atomic_ops kind extent.now got
+        (Retirements.acquire_of insn.now) (Retirements.release_of insn.now) bypass.now) }
 {
     match bypass {
         Some(report) => {
-            let acquire = acquire_of(&insn.insn);
-            let release = release_of(&insn.insn);
+            let acquire = acquire_of(insn);
+            let release = release_of(insn);
             let access = bypass_access(kind, extent, got, acquire, release, report);
-            TraceEntry::Whole(insn, access, place_of_report(report))
+            Some(KeptUse::Whole(access, place_of_report(report)))
         }
-        None => TraceEntry::Quiet(insn),
-    }
-}
-
-/// The entry of an AMO.
-fn amo_entry(
-    live: &[OpenReport],
-    early: &[OpenReport],
-    head: &Head,
-    insn: &Insn,
-    extent: &Extent,
-) -> TraceEntry
-    ensures { entry_seen result ≡ Retirements.entry head.now insn.now false (Fixed (Retirements.amo_ops
-        (reverse live.now) (reverse early.now) head.now insn.now (extent_of extent.now.addr extent.now.len))) }
-{
-    let got = bytes_read(live, head.tag, extent);
-    let bypass = early_of(early, head.hart, head.tag);
-    atomic_entry(
-        retired(head, insn, false),
-        OpKind::Both,
-        extent,
-        got,
-        &bypass,
-    )
-}
-
-/// The entry of an SC, which did nothing where it failed.
-fn sc_entry(early: &[OpenReport], head: &Head, insn: &Insn, extent: &Extent) -> TraceEntry
-    ensures { entry_seen result ≡ Retirements.entry head.now insn.now
-        (is_some (Reports.early_of (reverse early.now) head.now.hart head.now.tag))
-        (Fixed (Retirements.sc_ops (reverse early.now) head.now insn.now
-        (extent_of extent.now.addr extent.now.len))) }
-{
-    let got = zeros(extent);
-    let bypass = early_of(early, head.hart, head.tag);
-    atomic_entry(
-        retired(head, insn, bypass.is_some()),
-        OpKind::Store,
-        extent,
-        got,
-        &bypass,
-    )
-}
-
-/// The entry of an instruction that retires, by what it is to do, the live Reads of its hart, the early
-/// Bypasses, and the bytes that a plain store stores. None where it traps.
-pub fn entry_of(
-    live: &[OpenReport],
-    early: &[OpenReport],
-    head: &Head,
-    stored: &Option<Piece>,
-    what: &What,
-) -> Option<TraceEntry>
-    ensures { HasStored (doing_seen what.now) stored.now →
-        option_map entry_seen result ≡ Retirements.entry_of (reverse live.now) (reverse early.now) head.now
-        (bytes_stored stored.now) (doing_seen what.now) }
-{
-    match what {
-        What::Trap { .. } => None,
-        What::Plain(insn) | What::Counter(insn) => {
-            Some(TraceEntry::Quiet(retired(head, insn, false)))
-        }
-        What::Load(insn, extent) | What::Lr(insn, extent) => {
-            Some(load_entry(live, head, insn, extent))
-        }
-        What::Store(insn, extent) => match stored {
-            Some(piece) => Some(store_entry(head, insn, extent, piece)),
-            None => None,
-        },
-        What::Sc(insn, extent) => Some(sc_entry(early, head, insn, extent)),
-        What::Amo(insn, extent) => Some(amo_entry(live, early, head, insn, extent)),
-    }
-}
-
-/// Keeps an entry, if there is one. Without memory nothing changes.
-pub fn keep_entry(
-    entries: &mut Vec<TraceEntry>,
-    entry: &Option<TraceEntry>,
-) -> Result<(), AllocError>
-    ensures kept { OnErr result (reverse entries.new.items ≡ reverse entries.old.items) }
-    ensures taken { OnOk result (reverse entries.new.items ≡ with_new entry.now (reverse entries.old.items)) }
-{
-    match entry {
-        Some(entry) => entries.push(*entry)?,
-        None => {}
-    }
-    Ok(())
-}
-
-/// Drops the last entry, if this is one: it is the last.
-pub fn drop_entry(entries: &mut Vec<TraceEntry>, entry: &Option<TraceEntry>)
-    ensures { (before : List TraceEntry) → reverse entries.old.items ≡ with_new entry.now before →
-        reverse entries.new.items ≡ before }
-{
-    if entry.is_some() {
-        let _last = entries.pop();
+        None => None,
     }
 }

@@ -14,9 +14,9 @@ use Rattle.msg_frames.specs.declared.message.Piece.{Piece}
 use Rattle.msg_frames.specs.declared.message.LineWrite.{LineWrite}
 use Rattle.msg_frames.specs.declared.message.RdValue.{RdValue}
 use Rattle.msg_frames.specs.Frames.{FitsOpen, FitsTarget, FitsWrite}
-use Rattle.numerals.specs.Numerals.{hexadecimal, hexadecimal_in}
+use Rattle.numerals.specs.Numerals.{decimal_or_dash, hexadecimal, hexadecimal_in}
 use Rattle.trace_text.specs.Lines.{spaced, hart_field, time_field, tag_field, open_fields, poke_fields, piece_fields}
-use Rattle.trace_text.specs.Lines.{write_fields, target_text, trap_text, rd_text, csrs_text}
+use Rattle.trace_text.specs.Lines.{write_fields, target_text, rd_text, csrs_text}
 use Rattle.trace_text.specs.Reading.{hart_at, time_at, tag_at, timed_at, placed_at, tagged_at, open_at, poke_at}
 use Rattle.trace_text.specs.Reading.{piece_at, write_at, fetch_at, outcome_at}
 use Rattle.trace_text.specs.Values.{most32, most64, between, multiple, target_word, poked_value_in, piece_bytes_in}
@@ -211,7 +211,7 @@ fetch_found line at p at_end e =
 
 pub outcome_found : (line : List ℕ) (at : ℕ) (p : Option ℕ × Option RdValue × List CsrValue) → Here line at
     → outcome_at line at ≡ Ok p
-    → (drop at line ≡ flat_map spaced ((codes "trap=" ++ trap_text p.0) ∷ (codes "rd=" ++ rd_text p.1)
+    → (drop at line ≡ flat_map spaced ((codes "trap=" ++ decimal_or_dash p.0) ∷ (codes "rd=" ++ rd_text p.1)
     ∷ (codes "csrs=" ++ csrs_text p.2) ∷ []))
     × IfSome p.0 (λ cause. cause ≤ 255) × IfSome p.1 RdFits × (length p.2 ≤ 4) × All CsrFits p.2
 unfolding outcome_at
@@ -220,17 +220,15 @@ outcome_found line at p at_end e =
     let rd = bind_ok (field (codes "rd=") rd_word line trap.0.1) _ p trap.2 in
     let csrs = bind_ok (field (codes "csrs=") csrs_word line rd.0.1) _ p rd.2 in
     let end = bind_ok (ended line csrs.0.1) _ p csrs.2 in
-    let t = spelled_by (codes "trap=") trap_word (λ x. trap_text x) (λ x. IfSome x (λ cause. cause ≤ 255)) trap_read
-    line
-    at trap.0
-    at_end trap.1 in
+    let t = spelled_by (codes "trap=") trap_word (λ x. decimal_or_dash x) (λ x. IfSome x (λ cause. cause ≤ 255))
+    trap_read line at trap.0 at_end trap.1 in
     let r = spelled_by (codes "rd=") rd_word (λ x. rd_text x) (λ x. IfSome x RdFits) rd_read line trap.0.1 rd.0
     (here t.0) rd.1 in
     let c = spelled_by (codes "csrs=") csrs_word (λ x. csrs_text x) (λ l. (length l ≤ 4) × All CsrFits l)
     (λ text l q. let told = csr_list_read text l q in (told.0, (told.1, told.2))) line rd.0.1 csrs.0 (here r.0)
     csrs.1 in
     subst (λ (q : Option ℕ × Option RdValue × List CsrValue).
-    (drop at line ≡ flat_map spaced ((codes "trap=" ++ trap_text q.0) ∷ (codes "rd=" ++ rd_text q.1)
+    (drop at line ≡ flat_map spaced ((codes "trap=" ++ decimal_or_dash q.0) ∷ (codes "rd=" ++ rd_text q.1)
     ∷ (codes "csrs=" ++ csrs_text q.2) ∷ []))
     × IfSome q.0 (λ cause. cause ≤ 255) × IfSome q.1 RdFits × (length q.2 ≤ 4) × All CsrFits q.2) (ok_same _ p end.2)
     (closes (spelled_then (spelled_then t.0 r.0) c.0) end.1, t.1, r.1, c.1.0, c.1.1)

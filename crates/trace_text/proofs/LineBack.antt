@@ -22,10 +22,10 @@ use Rattle.msg_frames.specs.declared.message.Message.{Message}
 use Rattle.msg_frames.specs.Frames.{FitsOpen, FitsTarget, FitsWrite, FitsRetire, FitsPiece, Fits, InRange}
 use Rattle.msg_frames.specs.Frames.{TargetInRange, PieceInRange, CsrInRange, RetireInRange, BodyInRange, AreBytes}
 use Rattle.numerals.proofs.SpellingLaws.{hexadecimal_back}
-use Rattle.numerals.specs.Numerals.{hexadecimal, hexadecimal_in}
+use Rattle.numerals.specs.Numerals.{decimal_or_dash, hexadecimal, hexadecimal_in}
 use Rattle.trace_text.specs.Lines.{spaced, hart_field, time_field, tag_field, open_fields, poke_fields, piece_fields}
 use Rattle.trace_text.specs.Lines.{write_fields, retire_fields, fields_of, kind_word, words_of}
-use Rattle.trace_text.specs.Lines.{target_text, trap_text, rd_text, csrs_text}
+use Rattle.trace_text.specs.Lines.{target_text, rd_text, csrs_text}
 use Rattle.trace_text.specs.Reading.{timed_at, placed_at, tagged_at, open_at, poke_at, piece_at, write_at, fetch_at}
 use Rattle.trace_text.specs.Reading.{outcome_at, retire_at, kind_named, message_at, message_of, line_read}
 use Rattle.trace_text.specs.Values.{most32, most64, between, multiple, target_word, poked_value_in, piece_bytes_in}
@@ -244,7 +244,7 @@ unfolding retire_at outcome_at
 retire_reads retire line at fits holds follows =
     let f = fetch_reads retire line at _ holds.0 holds.1 holds.2 follows in
     let trapped = trap_fit retire.trap holds.3 in
-    let t = reads (codes "trap=") trap_word (trap_text retire.trap) line f.end retire.trap _
+    let t = reads (codes "trap=") trap_word (decimal_or_dash retire.trap) line f.end retire.trap _
     (clean_by (codes "trap=") refl)
     (trap_clean retire.trap trapped) (trap_back retire.trap trapped) f.follows in
     let written = rd_fit retire.rd fits.0 holds.4 in
@@ -441,7 +441,7 @@ retire_clean retire fits holds = (
       clean_field (codes "next=") (hexadecimal retire.next) (clean_by (codes "next=") refl)
           (hexadecimal_clean retire.next holds.2),
       (
-        clean_field (codes "trap=") (trap_text retire.trap)
+        clean_field (codes "trap=") (decimal_or_dash retire.trap)
             (clean_by (codes "trap=") refl) (trap_clean retire.trap (trap_fit retire.trap holds.3)),
         (
           clean_field (codes "rd=") (rd_text retire.rd) (clean_by (codes "rd=") refl)

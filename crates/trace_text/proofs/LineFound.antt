@@ -13,9 +13,10 @@ use Rattle.msg_frames.specs.declared.message.Target.{Target}
 use Rattle.msg_frames.specs.declared.message.Target.TheVariants.{Pc, X, Csr}
 use Rattle.msg_frames.specs.declared.message.Message.{Message}
 use Rattle.msg_frames.specs.Frames.{FitsRetire, TargetInRange, CsrInRange, RetireInRange, Fits, InRange}
+use Rattle.numerals.specs.Numerals.{decimal_or_dash}
 use Rattle.trace_text.specs.Lines.{spaced, fields_of, kind_word, open_fields, poke_fields, piece_fields, write_fields}
 use Rattle.trace_text.specs.Lines.{retire_fields, words_of}
-use Rattle.trace_text.specs.Lines.{trap_text, rd_text, csrs_text}
+use Rattle.trace_text.specs.Lines.{rd_text, csrs_text}
 use Rattle.trace_text.specs.Reading.{timed_at, placed_at, tagged_at, open_at, poke_at, piece_at, write_at, fetch_at}
 use Rattle.trace_text.specs.Reading.{outcome_at, retire_at, kind_named, message_at, message_of, line_read}
 use Rattle.trace_text.specs.Values.{is_text}
@@ -64,8 +65,8 @@ by_step : {A B P : Type 0} (first : Result A ℕ) (next : A → Result B ℕ) (v
 by_step first next value e more = let step = bind_ok first next value e in more step.0 step.1 step.2
 
 abbrev outcome_fields : Option ℕ × Option RdValue × List CsrValue → List (List ℕ)
-outcome_fields o = (codes "trap=" ++ trap_text o.0) ∷ (codes "rd=" ++ rd_text o.1) ∷ (codes "csrs=" ++ csrs_text o.2)
-    ∷ []
+outcome_fields o =
+    (codes "trap=" ++ decimal_or_dash o.0) ∷ (codes "rd=" ++ rd_text o.1) ∷ (codes "csrs=" ++ csrs_text o.2) ∷ []
 
 retire_found : (line : List ℕ) (at : ℕ) (retire : Retire) → Here line at → retire_at line at ≡ Ok retire
     → (drop at line ≡ flat_map spaced (retire_fields retire)) × FitsRetire retire × RetireInRange retire

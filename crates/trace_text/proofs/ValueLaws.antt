@@ -28,9 +28,9 @@ use Rattle.msg_frames.specs.declared.message.RdValue.{RdValue}
 use Rattle.msg_frames.specs.Frames.{is_poked_csr, FitsTarget}
 use Rattle.numerals.proofs.SpellingLaws.{decimal_found, decimal_back, hexadecimal_found, hexadecimal_back}
 use Rattle.numerals.proofs.TextLaws.{alike, unlike, starts}
-use Rattle.numerals.specs.Numerals.{decimal_in, hexadecimal, hexadecimal_in}
+use Rattle.numerals.specs.Numerals.{decimal_in, decimal_or_dash, hexadecimal, hexadecimal_in}
 use Rattle.std.specs.List.{flat_map}
-use Rattle.trace_text.specs.Lines.{target_text, trap_text, rd_text, csr_text, next_csr_text, csrs_text}
+use Rattle.trace_text.specs.Lines.{target_text, rd_text, csr_text, next_csr_text, csrs_text}
 use Rattle.trace_text.specs.Values.{most16, most64, is_text, at_least, between, if_multiple, multiple, poked}
 use Rattle.trace_text.specs.Values.{target_word, poked_value_in, trap_word, rd_of, register_in, rd_word}
 use Rattle.trace_text.specs.Values.{csr_of, csr_in, csr_before, some_csrs_in, csrs_word}
@@ -168,33 +168,33 @@ no_dash n small = unlike (decimal n) (codes "-") (λ same. (subst (Lacks 45) sam
     refl)
 
 pub trap_read : (text : List ℕ) (trap : Option ℕ) → trap_word text ≡ Some trap
-    → (text ≡ trap_text trap) × IfSome trap (λ cause. cause ≤ 255)
+    → (text ≡ decimal_or_dash trap) × IfSome trap (λ cause. cause ≤ 255)
 trap_read text trap e = first (is_text text (codes "-")) refl e
   where
     caused : (o : Option ℕ) → between 0 255 text ≡ o → option_map (λ cause. Some cause) o ≡ Some trap
-        → (text ≡ trap_text trap) × IfSome trap (λ cause. cause ≤ 255)
+        → (text ≡ decimal_or_dash trap) × IfSome trap (λ cause. cause ≤ 255)
     caused None p h = cc
     caused (Some n) p h =
         let found = between_read 0 255 n text p in
-        subst (λ (t : Option ℕ). (text ≡ trap_text t) × IfSome t (λ cause. cause ≤ 255))
+        subst (λ (t : Option ℕ). (text ≡ decimal_or_dash t) × IfSome t (λ cause. cause ≤ 255))
         (cond_some true (Some n) trap h).1 (found.0, found.2)
 
     first : (b : Bool) → is_text text (codes "-") ≡ b
         → (if b then Some None else option_map (λ cause. Some cause) (between 0 255 text)) ≡ Some trap
-        → (text ≡ trap_text trap) × IfSome trap (λ cause. cause ≤ 255)
+        → (text ≡ decimal_or_dash trap) × IfSome trap (λ cause. cause ≤ 255)
     first true p h =
-        subst (λ (t : Option ℕ). (text ≡ trap_text t) × IfSome t (λ cause. cause ≤ 255))
+        subst (λ (t : Option ℕ). (text ≡ decimal_or_dash t) × IfSome t (λ cause. cause ≤ 255))
         (cond_some true None trap h).1 (same_text text (codes "-") (sym p), tt)
     first false p h = caused (between 0 255 text) refl h
 
-pub trap_back : (trap : Option ℕ) → IfSome trap (λ cause. cause ≤ 255) → trap_word (trap_text trap) ≡ Some trap
+pub trap_back : (trap : Option ℕ) → IfSome trap (λ cause. cause ≤ 255) → trap_word (decimal_or_dash trap) ≡ Some trap
 trap_back None fits = refl
 trap_back (Some cause) fits =
     ap (λ (b : Bool). if b then Some None else option_map (λ c. Some c) (between 0 255 (decimal cause)))
     (no_dash cause (omega (arith, fits)))
     ∙ ap (option_map (λ c. Some c)) (between_back 0 255 cause (omega arith) (omega arith) fits)
 
-pub trap_clean : (trap : Option ℕ) → IfSome trap (λ cause. cause ≤ 255) → Clean (trap_text trap)
+pub trap_clean : (trap : Option ℕ) → IfSome trap (λ cause. cause ≤ 255) → Clean (decimal_or_dash trap)
 trap_clean None fits = clean_by (codes "-") refl
 trap_clean (Some cause) fits = decimal_clean cause (omega (arith, fits))
 

@@ -16,7 +16,7 @@ use Rattle.msg_frames.specs.declared.message.Retire.{Retire}
 use Rattle.msg_frames.specs.declared.message.Body.{Body}
 use Rattle.msg_frames.specs.declared.message.Body.TheVariants as body
 use Rattle.msg_frames.specs.declared.message.Message.{Message}
-use Rattle.numerals.specs.Numerals.{hexadecimal}
+use Rattle.numerals.specs.Numerals.{decimal_or_dash, hexadecimal}
 use Rattle.tandem_base.specs.Texts.{newline}
 
 -- ---- the values of fields
@@ -26,11 +26,6 @@ abbrev pub target_text : Target → List ℕ
 target_text Pc = codes "pc"
 target_text (X number) = codes "x" ++ decimal number
 target_text (Csr number) = hexadecimal number
-
--- the cause of a trap in decimal, or `-` for none
-abbrev pub trap_text : Option ℕ → List ℕ
-trap_text None = codes "-"
-trap_text (Some cause) = decimal cause
 
 -- the register that was written with its value, or `-` for none
 abbrev pub rd_text : Option RdValue → List ℕ
@@ -89,7 +84,7 @@ write_fields write =
 abbrev pub retire_fields : Retire → List (List ℕ)
 retire_fields retire =
     (codes "pc=" ++ hexadecimal retire.pc) ∷ (codes "word=" ++ hexadecimal retire.word)
-    ∷ (codes "next=" ++ hexadecimal retire.next) ∷ (codes "trap=" ++ trap_text retire.trap)
+    ∷ (codes "next=" ++ hexadecimal retire.next) ∷ (codes "trap=" ++ decimal_or_dash retire.trap)
     ∷ (codes "rd=" ++ rd_text retire.rd) ∷ (codes "csrs=" ++ csrs_text retire.csrs) ∷ []
 
 -- the fields of each kind

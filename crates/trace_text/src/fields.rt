@@ -6,9 +6,9 @@ ghost use Rattle.tandem_base.specs.Puts.{Puts};
 ghost use Rattle.trace_text.specs.Lines.{spaced, hart_field, time_field, tag_field, open_fields, poke_fields};
 ghost use Rattle.trace_text.specs.Lines.{piece_fields, write_fields, retire_fields};
 
-use super::values::{put_bytes, put_csrs, put_rd, put_target, put_trap};
+use super::values::{put_bytes, put_csrs, put_rd, put_target};
 use msg_frames::{Head, LineWrite, OpenInfo, Piece, Poke, Retire};
-use numerals::{put_decimal, put_hexadecimal};
+use numerals::{put_decimal, put_decimal_or_dash, put_hexadecimal};
 use tandem_base::put;
 
 /// Puts the hart.
@@ -120,7 +120,7 @@ fn put_outcome(out: &mut [u8], at: usize, retire: &Retire) -> usize
     ensures bound { result ≤ at + 193 }
 {
     let end = put(out, at, b" trap=");
-    let end = put_trap(out, end, retire.trap);
+    let end = put_decimal_or_dash(out, end, retire.trap);
     let end = put(out, end, b" rd=");
     let end = put_rd(out, end, retire.rd);
     let end = put(out, end, b" csrs=");

@@ -2,17 +2,30 @@
 //! before ends, and answers the value with the offset at which its own word ends, or the offset of
 //! the word that doesn't spell it.
 
-ghost use Rattle.std.specs.Prelude.{◌≡◌, ◌≤◌, codes, length, IfOk, IfErr};
+ghost use Rattle.std.specs.Prelude.{◌≡◌, ◌≤◌, codes, length, Some, IfOk, IfErr};
 ghost use Rattle.numerals.specs.Numerals.{hexadecimal_in};
 ghost use Rattle.trace_text.specs.Values.{between, multiple, target_word, poked_value_in, piece_bytes_in};
 ghost use Rattle.trace_text.specs.Values.{line_bytes_in, trap_word, rd_word, csrs_word};
-ghost use Rattle.trace_text.specs.Words.{field};
+ghost use Rattle.trace_text.specs.Words.{field, value_or};
 
 use super::spellings;
 use super::words::named_word;
 use msg_frames::{CsrList, RdValue, Target};
 use numerals::read_hexadecimal;
 use tandem_base::Bytes8;
+
+/// The value with the offset at which its word ends, or else that at which the word starts.
+fn value_or<A>(start: usize, value: Option<A>, end: usize) -> Result<(A, usize), usize>
+    ensures value { result ≡ value_or start value end }
+    ensures some { IfOk result (λ read. value ≡ Some read.0) }
+    ensures end { IfOk result (λ read. read.1 ≡ end) }
+    ensures start { IfErr result (λ place. place ≡ start) }
+{
+    match value {
+        Some(value) => Ok((value, end)),
+        None => Err(start),
+    }
+}
 
 /// A number from `least` to `most` in decimal.
 pub(crate) fn decimal(
@@ -30,10 +43,7 @@ pub(crate) fn decimal(
     ensures place { IfErr result (λ place. place ≤ length line.now) }
 {
     let (text, end) = named_word(line, at, name)?;
-    match spellings::between(text, least, most) {
-        Some(value) => Ok((value, end)),
-        None => Err(at + 1),
-    }
+    value_or(at + 1, spellings::between(text, least, most), end)
 }
 
 /// A number of at most `most` in hexadecimal.
@@ -50,10 +60,7 @@ pub(crate) fn hexadecimal(
     ensures place { IfErr result (λ place. place ≤ length line.now) }
 {
     let (text, end) = named_word(line, at, name)?;
-    match read_hexadecimal(text, most) {
-        Some(value) => Ok((value, end)),
-        None => Err(at + 1),
-    }
+    value_or(at + 1, read_hexadecimal(text, most), end)
 }
 
 /// The address of a line of memory.
@@ -64,10 +71,7 @@ pub(crate) fn address(line: &[u8], at: usize) -> Result<(u64, usize), usize>
     ensures place { IfErr result (λ place. place ≤ length line.now) }
 {
     let (text, end) = named_word(line, at, b"line=")?;
-    match spellings::multiple(text, 64) {
-        Some(value) => Ok((value, end)),
-        None => Err(at + 1),
-    }
+    value_or(at + 1, spellings::multiple(text, 64), end)
 }
 
 /// What a Poke sets.
@@ -78,10 +82,7 @@ pub(crate) fn target(line: &[u8], at: usize) -> Result<(Target, usize), usize>
     ensures place { IfErr result (λ place. place ≤ length line.now) }
 {
     let (text, end) = named_word(line, at, b"reg=")?;
-    match spellings::target(text) {
-        Some(value) => Ok((value, end)),
-        None => Err(at + 1),
-    }
+    value_or(at + 1, spellings::target(text), end)
 }
 
 /// The value of what a Poke sets.
@@ -92,10 +93,7 @@ pub(crate) fn poked_value(line: &[u8], at: usize, target: Target) -> Result<(u64
     ensures place { IfErr result (λ place. place ≤ length line.now) }
 {
     let (text, end) = named_word(line, at, b"value=")?;
-    match spellings::poked_value(text, target) {
-        Some(value) => Ok((value, end)),
-        None => Err(at + 1),
-    }
+    value_or(at + 1, spellings::poked_value(text, target), end)
 }
 
 /// One to eight bytes.
@@ -106,10 +104,7 @@ pub(crate) fn piece_bytes(line: &[u8], at: usize) -> Result<(Bytes8, usize), usi
     ensures place { IfErr result (λ place. place ≤ length line.now) }
 {
     let (text, end) = named_word(line, at, b"bytes=")?;
-    match spellings::piece_bytes(text) {
-        Some(value) => Ok((value, end)),
-        None => Err(at + 1),
-    }
+    value_or(at + 1, spellings::piece_bytes(text), end)
 }
 
 /// The 64 bytes of a line of memory.
@@ -120,10 +115,7 @@ pub(crate) fn line_bytes(line: &[u8], at: usize, mask: u64) -> Result<([u8; 64],
     ensures place { IfErr result (λ place. place ≤ length line.now) }
 {
     let (text, end) = named_word(line, at, b"bytes=")?;
-    match spellings::line_bytes(text, mask) {
-        Some(value) => Ok((value, end)),
-        None => Err(at + 1),
-    }
+    value_or(at + 1, spellings::line_bytes(text, mask), end)
 }
 
 /// The cause of a trap, or none.
@@ -134,10 +126,7 @@ pub(crate) fn trap(line: &[u8], at: usize) -> Result<(Option<u8>, usize), usize>
     ensures place { IfErr result (λ place. place ≤ length line.now) }
 {
     let (text, end) = named_word(line, at, b"trap=")?;
-    match spellings::trap(text) {
-        Some(value) => Ok((value, end)),
-        None => Err(at + 1),
-    }
+    value_or(at + 1, spellings::trap(text), end)
 }
 
 /// The register that was written, or none.
@@ -148,10 +137,7 @@ pub(crate) fn rd(line: &[u8], at: usize) -> Result<(Option<RdValue>, usize), usi
     ensures place { IfErr result (λ place. place ≤ length line.now) }
 {
     let (text, end) = named_word(line, at, b"rd=")?;
-    match spellings::rd(text) {
-        Some(value) => Ok((value, end)),
-        None => Err(at + 1),
-    }
+    value_or(at + 1, spellings::rd(text), end)
 }
 
 /// The CSRs that were written.
@@ -162,8 +148,5 @@ pub(crate) fn csrs(line: &[u8], at: usize) -> Result<(CsrList, usize), usize>
     ensures place { IfErr result (λ place. place ≤ length line.now) }
 {
     let (text, end) = named_word(line, at, b"csrs=")?;
-    match spellings::csrs(text) {
-        Some(value) => Ok((value, end)),
-        None => Err(at + 1),
-    }
+    value_or(at + 1, spellings::csrs(text), end)
 }

@@ -6,7 +6,7 @@ ghost use Rattle.std.specs.List.{flat_map};
 ghost use Rattle.hex.specs.Hex.{encode_lower};
 ghost use Rattle.numerals.specs.Numerals.{hexadecimal};
 ghost use Rattle.tandem_base.specs.Puts.{Puts};
-ghost use Rattle.trace_text.specs.Lines.{target_text, trap_text, rd_text, csr_text, next_csr_text, csrs_text};
+ghost use Rattle.trace_text.specs.Lines.{target_text, rd_text, csr_text, next_csr_text, csrs_text};
 
 use msg_frames::{CsrList, CsrValue, RdValue, Target};
 use numerals::{put_decimal, put_hexadecimal};
@@ -25,18 +25,6 @@ pub(crate) fn put_target(out: &mut [u8], at: usize, target: Target) -> usize
             put_decimal(out, end, number)
         }
         Target::Csr(number) => put_hexadecimal(out, at, u64::from(number)),
-    }
-}
-
-/// Puts the cause of a trap.
-pub(crate) fn put_trap(out: &mut [u8], at: usize, trap: Option<u8>) -> usize
-    requires { at + 3 ≤ length out.old }
-    ensures puts { Puts at out.old result out.new (trap_text trap) }
-    ensures bound { result ≤ at + 3 }
-{
-    match trap {
-        None => put(out, at, b"-"),
-        Some(cause) => put_decimal(out, at, cause),
     }
 }
 

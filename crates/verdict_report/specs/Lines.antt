@@ -7,7 +7,7 @@ use Rattle.msg_frames.specs.declared.message.Form.{Form}
 use Rattle.msg_frames.specs.declared.message.Form.TheVariants.{Length, Kind, Reserved, Field}
 use Rattle.msg_frames.specs.declared.message.Head.{Head}
 use Rattle.msg_frames.specs.declared.message.RdValue.{RdValue}
-use Rattle.numerals.specs.Numerals.{hexadecimal}
+use Rattle.numerals.specs.Numerals.{decimal_or_dash, hexadecimal}
 use Rattle.tandem_base.specs.Texts.{newline}
 use Rattle.tandem_base.specs.declared.names.OpName.{OpName}
 use Rattle.tandem_base.specs.declared.names.Origin.{Origin}
@@ -35,11 +35,6 @@ form_text Length = codes "Length"
 form_text Kind = codes "Kind"
 form_text Reserved = codes "Reserved"
 form_text Field = codes "Field"
-
--- the cause of a trap in decimal, or `-` for none
-abbrev pub cause_text : Option ℕ → List ℕ
-cause_text None = codes "-"
-cause_text (Some cause) = decimal cause
 
 -- `xN:` of register N
 abbrev pub register_text : ℕ → List ℕ
@@ -105,7 +100,7 @@ detail_of (TagOrder last) = codes " last=" ++ decimal last
 detail_of (StrayBypass bypass) = codes " bypass=" ++ decimal bypass
 detail_of (Pc want got) = differ (hexadecimal want) (hexadecimal got)
 detail_of (Word want got) = differ (hexadecimal want) (hexadecimal got)
-detail_of (Trap want got) = differ (cause_text want) (cause_text got)
+detail_of (Trap want got) = differ (decimal_or_dash want) (decimal_or_dash got)
 detail_of (MissingRead at) = at_text at
 detail_of (TornRead at) = at_text at
 detail_of MissingBypass = []

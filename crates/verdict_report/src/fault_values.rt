@@ -2,13 +2,13 @@
 
 ghost use Rattle.std.specs.Prelude.{◌+◌, ◌≤◌, length};
 ghost use Rattle.verdict_report.specs.FaultValues.{fault_value_text};
-ghost use Rattle.verdict_report.specs.Lines.{cause_text, csr_value_text, rd_value_text, rd_want_text, register_text};
+ghost use Rattle.verdict_report.specs.Lines.{csr_value_text, rd_value_text, rd_want_text, register_text};
 ghost use Rattle.verdict_report.specs.Lines.{byte_text};
 ghost use Rattle.tandem_base.specs.Puts.{Puts};
 
 use super::fault::RdWant;
 use msg_frames::{CsrValue, RdValue};
-use numerals::{put_decimal, put_hexadecimal};
+use numerals::{put_decimal, put_decimal_or_dash, put_hexadecimal};
 use tandem_base::put;
 
 /// A value that a fault tells.
@@ -26,18 +26,6 @@ pub enum FaultValue {
     Csr(Option<CsrValue>),
     /// A byte of memory.
     Byte(Option<u8>),
-}
-
-// Puts the cause of a trap.
-fn put_cause(out: &mut [u8], at: usize, cause: Option<u8>) -> usize
-    requires { at + 3 ≤ length out.old }
-    ensures puts { Puts at out.old result out.new (cause_text cause) }
-    ensures bound { result ≤ at + 3 }
-{
-    match cause {
-        None => put(out, at, b"-"),
-        Some(cause) => put_decimal(out, at, cause),
-    }
 }
 
 // Puts the name of a register and a colon.
@@ -123,7 +111,7 @@ pub fn put_fault_value(out: &mut [u8], at: usize, value: FaultValue) -> usize
 {
     match value {
         FaultValue::Number(number) => put_hexadecimal(out, at, number),
-        FaultValue::Cause(cause) => put_cause(out, at, cause),
+        FaultValue::Cause(cause) => put_decimal_or_dash(out, at, cause),
         FaultValue::RdWant(want) => put_rd_want(out, at, want),
         FaultValue::Rd(rd) => put_rd(out, at, rd),
         FaultValue::Csr(csr) => put_csr(out, at, csr),

@@ -24,12 +24,13 @@ impl Hart {
         ensures step { (image : Loaded) (config : Config) → plan_seen plan.now ≡ plan_of self.old image config
             → record { hart = self.new; effect = result } ≡ Step self.old image config outside.now }
     {
-        let effect = self.effect(plan, outside);
+        let mut effect = Effect::new();
+        self.effect_into(plan, outside, &mut effect);
         self.commit(&effect);
         effect
     }
 
-    /// Becomes what a report says, as `effect` works it out: its pc, its register, its CSRs, and one
+    /// Becomes what a report says, as `effect_into` works it out: its pc, its register, its CSRs, and one
     /// more retired where it isn't a trap.
     pub fn commit(&mut self, effect: &Effect)
         requires next { effect.now.next % 4 ≡ 0 }

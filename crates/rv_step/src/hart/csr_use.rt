@@ -1,7 +1,7 @@
 //! What CSR instructions, traps and MRET read and write.
 
 ghost use Rattle.std.specs.Prelude.{◌≡◌, ◌<◌, [], ◌∷◌, true};
-ghost use Rattle.csr_file.specs.CsrFile.{kept, read_of, returned, trapped};
+ghost use Rattle.csr_file.specs.CsrFile.{kept, read_of};
 ghost use Rattle.tandem_base.specs.CsrNumbers as csr;
 ghost use Rattle.rv_decode.specs.Registers.{writes_csr};
 ghost use Rattle.rv_step.specs.CsrUse.{is_counter, is_legal_csr, new_csr, old_csr, operand_of, value_read};
@@ -35,48 +35,29 @@ impl Hart {
         }
     }
 
-    /// What a CSR instruction that writes leaves in the CSR.
-    pub(crate) fn csr_written(&self, op: CsrOp, source: u8, number: u16, reported: u64) -> CsrList
+    /// Lists what a CSR instruction that writes leaves in the CSR.
+    pub(crate) fn list_written(
+        &self,
+        op: CsrOp,
+        source: u8,
+        number: u16,
+        reported: u64,
+        list: &mut CsrList,
+    )
         requires source { source < 32 }
         requires legal { is_legal_csr op source number ≡ true }
         requires writes { writes_csr op source ≡ true }
-        ensures { result
+        requires empty { list.old ≡ [] }
+        ensures { list.new
             ≡ csr_value number
             (kept number (new_csr op (old_csr self.now number reported) (operand_of self.now op source))) ∷ [] }
     {
         let old = self.csr_value(number, reported);
         let mut csrs = self.csrs;
-        let mut list = CsrList::new();
         match csrs.write(number, combined(op, old, self.operand(op, source))) {
             CsrWrite::Done(value) => list.push(CsrValue { number, value }),
             CsrWrite::ReadOnly | CsrWrite::Absent => unreachable!(),
         }
-        list
-    }
-
-    /// What MRET leaves in mstatus.
-    pub(crate) fn csrs_returned(&self) -> CsrList
-        ensures { result ≡ csr_value csr.mstatus (returned self.now.csrs).mstatus ∷ [] }
-    {
-        let mut csrs = self.csrs;
-        csrs.mret();
-        let mut list = CsrList::new();
-        list.push(value_in(&csrs, MSTATUS));
-        list
-    }
-
-    /// What a trap leaves in the four CSRs that it writes.
-    pub(crate) fn csrs_trapped(&self, cause: u8, value: u64) -> CsrList
-        ensures { result ≡ trap_csrs (trapped self.now.csrs cause self.now.pc value) }
-    {
-        let mut csrs = self.csrs;
-        csrs.trap(cause, self.pc, value);
-        let mut list = CsrList::new();
-        list.push(value_in(&csrs, MSTATUS));
-        list.push(value_in(&csrs, MEPC));
-        list.push(value_in(&csrs, MCAUSE));
-        list.push(value_in(&csrs, MTVAL));
-        list
     }
 
     /// The register, or the immediate, of a CSR instruction.
@@ -100,6 +81,25 @@ fn value_in(csrs: &Csrs, number: u16) -> CsrValue
         _ => 0,
     };
     CsrValue { number, value }
+}
+
+/// Lists what MRET left in mstatus.
+pub(crate) fn list_returned(csrs: &Csrs, list: &mut CsrList)
+    requires { list.old ≡ [] }
+    ensures { list.new ≡ csr_value csr.mstatus csrs.now.mstatus ∷ [] }
+{
+    list.push(value_in(csrs, MSTATUS));
+}
+
+/// Lists what a trap left in the four CSRs that it writes.
+pub(crate) fn list_trapped(csrs: &Csrs, list: &mut CsrList)
+    requires { list.old ≡ [] }
+    ensures { list.new ≡ trap_csrs csrs.now }
+{
+    list.push(value_in(csrs, MSTATUS));
+    list.push(value_in(csrs, MEPC));
+    list.push(value_in(csrs, MCAUSE));
+    list.push(value_in(csrs, MTVAL));
 }
 
 /// The value that a CSR instruction writes.

@@ -6,73 +6,83 @@ ghost use Rattle.rv_decode.specs.declared.instruction.Insn.{Insn};
 ghost use Rattle.rv_step.specs.declared.effect.Outside.{Outside};
 ghost use Rattle.rv_step.specs.Plans.{IsPlan, doing_seen};
 ghost use Rattle.rv_step.specs.Promises.{HasCsr, IsTarget, is_call};
-ghost use Rattle.rv_step.specs.Steps.{IsLoaded, executed, finished, rd_written, traps};
+ghost use Rattle.rv_step.specs.Steps.{IsLoaded, executed, finished, rd_written, reports, traps};
 
 use super::Hart;
+use super::csr_use::{list_returned, list_trapped};
 use crate::effect::{Effect, Outside};
 use crate::integers::{alu, even, register_form, taken};
 use crate::memory::{
     amo_result, amo_value, bytes_atomic, bytes_stored, load_value, lr_value, stored_bytes,
 };
 use crate::plan::{Plan, What};
-use msg_frames::{CsrList, Piece, RdValue};
+use msg_frames::{Piece, RdValue};
 use rv_decode::Insn;
 use rv_decode::registers::writes_csr;
 
 impl Hart {
-    /// What this hart's plan reports, as `finish` answers it; the hart stays as it is. A load, LR or
-    /// AMO needs the loaded bytes, as many as its extent has.
-    pub fn effect(&self, plan: &Plan, outside: &Outside) -> Effect
+    /// Works out what this hart's plan reports, as `finish` answers it; the hart stays as it is. A load,
+    /// LR or AMO needs the loaded bytes, as many as its extent has.
+    pub fn effect_into(&self, plan: &Plan, outside: &Outside, effect: &mut Effect)
         requires planned { IsPlan self.now plan.now }
         requires loaded { IsLoaded outside.now (doing_seen plan.now.what) }
-        ensures value { result ≡ (finished self.now outside.now (doing_seen plan.now.what)).effect }
-        ensures next { result.next % 4 ≡ 0 }
-        ensures rd { IfSome result.rd (λ rd. (0 < rd.number) × (rd.number < 32)) }
+        ensures value { effect.new ≡ (finished self.now outside.now (doing_seen plan.now.what)).effect }
+        ensures next { effect.new.next % 4 ≡ 0 }
+        ensures rd { IfSome effect.new.rd (λ rd. (0 < rd.number) × (rd.number < 32)) }
     {
         let _word = plan.word;
         match &plan.what {
-            What::Trap { cause, value } => self.effect_of_trap(*cause, *value),
+            What::Trap { cause, value } => self.trap_into(*cause, *value, effect),
             What::Plain(insn)
             | What::Counter(insn)
             | What::Load(insn, _)
             | What::Store(insn, _)
             | What::Lr(insn, _)
             | What::Sc(insn, _)
-            | What::Amo(insn, _) => self.effect_of(insn, outside),
+            | What::Amo(insn, _) => self.insn_into(insn, outside, effect),
         }
     }
 
     /// What a trap reports.
-    fn effect_of_trap(&self, cause: u8, value: u64) -> Effect
-        ensures value { result ≡ (traps self.now cause value).effect }
-        ensures next { result.next % 4 ≡ 0 }
+    fn trap_into(&self, cause: u8, value: u64, effect: &mut Effect)
+        ensures value { effect.new ≡ (traps self.now cause value).effect }
+        ensures next { effect.new.next % 4 ≡ 0 }
     {
         let mut csrs = self.csrs;
-        Effect {
-            next: csrs.trap(cause, self.pc, value),
-            rd: None,
-            csrs: self.csrs_trapped(cause, value),
-            store: None,
-            trap: Some(cause),
-        }
+        report(csrs.trap(cause, self.pc, value), None, effect);
+        list_trapped(&csrs, &mut effect.csrs);
+        effect.trap = Some(cause);
     }
 
     /// What an instruction reports that doesn't trap.
-    fn effect_of(&self, insn: &Insn, outside: &Outside) -> Effect
+    fn insn_into(&self, insn: &Insn, outside: &Outside, effect: &mut Effect)
         requires fits { IsInsn insn.now }
         requires csr { HasCsr insn.now }
         requires call { is_call insn.now ≡ false }
         requires target { IsTarget self.now insn.now }
-        ensures value { result ≡ (executed self.now outside.now insn.now).effect }
-        ensures next { result.next % 4 ≡ 0 }
-        ensures rd { IfSome result.rd (λ rd. (0 < rd.number) × (rd.number < 32)) }
+        ensures value { effect.new ≡ (executed self.now outside.now insn.now).effect }
+        ensures next { effect.new.next % 4 ≡ 0 }
+        ensures rd { IfSome effect.new.rd (λ rd. (0 < rd.number) × (rd.number < 32)) }
     {
-        Effect {
-            next: self.next_after(insn),
-            rd: self.rd_after(insn, outside),
-            csrs: self.csrs_after(insn, outside),
-            store: self.store_after(insn, outside),
-            trap: None,
+        report(self.next_after(insn), self.rd_after(insn, outside), effect);
+        match *insn {
+            Insn::Csr {
+                op,
+                source,
+                number,
+                ..
+            } if writes_csr(op, source) => {
+                self.list_written(op, source, number, outside.reported, &mut effect.csrs)
+            }
+            Insn::Mret => {
+                let mut csrs = self.csrs;
+                csrs.mret();
+                list_returned(&csrs, &mut effect.csrs);
+            }
+            Insn::Store { .. } | Insn::Sc { .. } | Insn::Amo { .. } => {
+                effect.store = self.store_after(insn, outside)
+            }
+            _ => {}
         }
     }
 
@@ -125,27 +135,6 @@ impl Hart {
         }
     }
 
-    /// The CSRs that are written.
-    fn csrs_after(&self, insn: &Insn, outside: &Outside) -> CsrList
-        requires fits { IsInsn insn.now }
-        requires csr { HasCsr insn.now }
-        requires call { is_call insn.now ≡ false }
-        ensures { result ≡ (executed self.now outside.now insn.now).effect.csrs }
-    {
-        match *insn {
-            Insn::Csr {
-                op,
-                source,
-                number,
-                ..
-            } if writes_csr(op, source) => {
-                self.csr_written(op, source, number, outside.reported)
-            }
-            Insn::Mret => self.csrs_returned(),
-            _ => CsrList::new(),
-        }
-    }
-
     /// The bytes that are stored.
     fn store_after(&self, insn: &Insn, outside: &Outside) -> Option<Piece>
         requires fits { IsInsn insn.now }
@@ -177,6 +166,17 @@ impl Hart {
             _ => None,
         }
     }
+}
+
+/// The report of an instruction that goes on at an address, and writes that register.
+fn report(next: u64, rd: Option<RdValue>, effect: &mut Effect)
+    ensures { effect.new ≡ reports next rd }
+{
+    effect.next = next;
+    effect.rd = rd;
+    effect.csrs.clear();
+    effect.store = None;
+    effect.trap = None;
 }
 
 /// The report of a register: a write to x0 is none.

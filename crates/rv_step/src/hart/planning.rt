@@ -34,68 +34,86 @@ impl Hart {
         ensures csr { IfSome (planned_insn (doing_seen result.what)) HasCsr }
         ensures target { IfSome (planned_insn (doing_seen result.what)) (IsTarget self.now) }
     {
-        self.fetched(image, config)
+        let mut plan = Plan {
+            word: 0,
+            what: What::Trap { cause: 0, value: 0 },
+        };
+        self.plan_into(image, config, &mut plan);
+        plan
+    }
+
+    /// The same, written into a place.
+    pub fn plan_into(&self, image: &Image, config: &Config, plan: &mut Plan)
+        ensures value { plan_seen plan.new ≡ plan_of self.now (loaded_of image.now) config.now }
+        ensures fits { IfSome (planned_insn (doing_seen plan.new.what)) IsInsn }
+        ensures kind { IsOfKind (doing_seen plan.new.what) }
+        ensures held { IfSome (planned_extent plan.new.what) (Holds (loaded_of image.now)) }
+        ensures aligned { IsAlignedAtomic (doing_seen plan.new.what) }
+        ensures csr { IfSome (planned_insn (doing_seen plan.new.what)) HasCsr }
+        ensures target { IfSome (planned_insn (doing_seen plan.new.what)) (IsTarget self.now) }
+    {
+        self.fetch_into(image, config, plan);
     }
 
     /// The same, without what follows.
-    fn fetched(&self, image: &Image, config: &Config) -> Plan
-        ensures value { plan_seen result ≡ plan_of self.now (loaded_of image.now) config.now }
-        ensures fits { result.word < 2 ^ 32 }
+    fn fetch_into(&self, image: &Image, config: &Config, plan: &mut Plan)
+        ensures value { plan_seen plan.new ≡ plan_of self.now (loaded_of image.now) config.now }
+        ensures fits { plan.new.word < 2 ^ 32 }
     {
         match image.word(self.pc) {
-            Some(word) => Plan {
-                word,
-                what: self.what(image, config, word),
-            },
-            None => Plan {
-                word: 0,
-                what: What::Trap {
+            Some(word) => {
+                plan.word = word;
+                self.word_into(image, config, word, &mut plan.what);
+            }
+            None => {
+                plan.word = 0;
+                plan.what = What::Trap {
                     cause: FETCH_FAULT,
                     value: self.pc,
-                },
-            },
+                };
+            }
         }
     }
 
     /// What a word is to do.
-    fn what(&self, image: &Image, config: &Config, word: u32) -> What
-        ensures { doing_seen result
+    fn word_into(&self, image: &Image, config: &Config, word: u32, what: &mut What)
+        ensures { doing_seen what.new
             ≡ doing_word self.now (loaded_of image.now) config.now word (decoding word) }
     {
-        match decode(word) {
-            Some(insn) => self.what_of(image, config, word, insn),
-            None => illegal_word(config, word),
+        match &decode(word) {
+            Some(insn) => self.insn_plan(image, config, word, insn, what),
+            None => *what = illegal_word(config, word),
         }
     }
 
     /// What an instruction is to do.
-    fn what_of(&self, image: &Image, config: &Config, word: u32, insn: Insn) -> What
-        requires { IsInsn insn }
-        ensures { doing_seen result ≡ doing_of self.now (loaded_of image.now) config.now word insn }
+    fn insn_plan(&self, image: &Image, config: &Config, word: u32, insn: &Insn, what: &mut What)
+        requires { IsInsn insn.now }
+        ensures { doing_seen what.new ≡ doing_of self.now (loaded_of image.now) config.now word insn.now }
     {
-        match insn {
-            Insn::Jal { imm, .. } => jump(insn, self.pc.wrapping_add_signed(imm)),
+        match *insn {
+            Insn::Jal { imm, .. } => *what = jump(insn, self.pc.wrapping_add_signed(imm)),
             Insn::Jalr { rs1, imm, .. } => {
-                jump(insn, even(self.x(rs1).wrapping_add_signed(imm)))
+                *what = jump(insn, even(self.x(rs1).wrapping_add_signed(imm)))
             }
             Insn::Branch { op, rs1, rs2, imm } if taken(op, self.x(rs1), self.x(rs2)) => {
-                jump(insn, self.pc.wrapping_add_signed(imm))
+                *what = jump(insn, self.pc.wrapping_add_signed(imm))
             }
-            Insn::Ecall => raised(ENVIRONMENT_CALL),
-            Insn::Ebreak => raised(BREAKPOINT),
+            Insn::Ecall => *what = raised(ENVIRONMENT_CALL),
+            Insn::Ebreak => *what = raised(BREAKPOINT),
             Insn::Csr {
                 op,
                 source,
                 number,
                 ..
-            } if !self.may_use(op, source, number) => illegal_word(config, word),
-            Insn::Csr { number, .. } if counts_outside(number) => What::Counter(insn),
+            } if !self.may_use(op, source, number) => *what = illegal_word(config, word),
+            Insn::Csr { number, .. } if counts_outside(number) => *what = What::Counter(*insn),
             Insn::Load { .. }
             | Insn::Store { .. }
             | Insn::Lr { .. }
             | Insn::Sc { .. }
-            | Insn::Amo { .. } => self.what_accessed(image, config, insn),
-            _ => What::Plain(insn),
+            | Insn::Amo { .. } => *what = self.what_accessed(image, config, *insn),
+            _ => *what = What::Plain(*insn),
         }
     }
 
@@ -150,11 +168,11 @@ fn illegal_word(config: &Config, word: u32) -> What
 }
 
 /// A jump that is taken.
-fn jump(insn: Insn, target: u64) -> What
-    ensures { doing_seen result ≡ jumps insn target }
+fn jump(insn: &Insn, target: u64) -> What
+    ensures { doing_seen result ≡ jumps insn.now target }
 {
     if target % 4 == 0 {
-        What::Plain(insn)
+        What::Plain(*insn)
     } else {
         What::Trap {
             cause: MISALIGNED_FETCH,

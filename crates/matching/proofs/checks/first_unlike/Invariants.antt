@@ -1,7 +1,8 @@
 use Rattle.std.proofs.Common.{◌≡◌, ◌<◌, reverse, IfSome}
 use Rattle.std.specs.List.{filter}
 use Rattle.matching.specs.Pieces.{first_other}
-use Rattle.matching.specs.PartFaults.{byte_waiting, byte_written}
+use Rattle.msg_frames.specs.Pieces.{byte_written}
+use Rattle.matching.specs.PartFaults.{byte_waiting}
 use Rattle.matching.specs.Tables.{is_in}
 use Rattle.matching.proofs.checks.first_unlike.Given as goal
 

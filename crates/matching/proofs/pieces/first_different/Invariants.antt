@@ -1,5 +1,6 @@
 use Rattle.std.proofs.Common.{◌≡◌, ◌<◌, IfSome}
-use Rattle.matching.specs.Pieces.{byte_in, first_other}
+use Rattle.msg_frames.specs.Pieces.{byte_in}
+use Rattle.matching.specs.Pieces.{first_other}
 use Rattle.matching.proofs.pieces.first_different.Given as goal
 
 abbrev pub invariant-loop-k : goal.invariant-loop-k

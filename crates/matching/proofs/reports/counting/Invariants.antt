@@ -1,6 +1,6 @@
 use Rattle.std.proofs.Common.{◌≡◌, reverse, take, IfSome, true}
 use Rattle.matching.specs.Reports
-use Rattle.matching.specs.Pieces.{has}
+use Rattle.msg_frames.specs.Pieces.{has}
 use Rattle.matching.proofs.reports.counting.Given as goal
 
 abbrev pub invariant-loop-report : goal.invariant-loop-report

@@ -5,8 +5,8 @@ use Rattle.matching.specs.Reports.{is_report}
 use Rattle.matching.proofs.Reversed.{filter-reverse}
 use Rattle.matching.proofs.reports.drop_report.Goals as goal
 
-pub returns : goal.returns
-returns c =
+pub returns-then-not-is_empty : goal.returns-then-not-is_empty
+returns-then-not-is_empty c =
     ap reverse (filter_same _ (λ (r : OpenReport). not (is_report c.args.hart c.args.tag r)) _
     (λ x b f r. search rules) _ _ c.retain.ensures.filtered)
     ∙ filter-reverse (λ (r : OpenReport). not (is_report c.args.hart c.args.tag r)) c.args.early.now.items

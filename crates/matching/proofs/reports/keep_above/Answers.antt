@@ -4,8 +4,8 @@ use Rattle.matching.specs.declared.reports.OpenReport.{OpenReport}
 use Rattle.matching.proofs.Reversed.{filter-reverse}
 use Rattle.matching.proofs.reports.keep_above.Goals as goal
 
-pub returns : goal.returns
-returns c =
+pub returns-then-not-is_empty : goal.returns-then-not-is_empty
+returns-then-not-is_empty c =
     ap reverse (filter_same _ (λ (r : OpenReport). nat_lt c.args.tag r.tag) _ (λ x b f r. search rules) _ _
     c.retain.ensures.filtered)
     ∙ filter-reverse (λ (r : OpenReport). nat_lt c.args.tag r.tag) c.args.live.now.items

@@ -1,9 +1,9 @@
 use Rattle.std.proofs.Common.{List, Option, ◌≡◌, ◌++◌, OnOk, sym, ap, subst, ◌∙◌}
 use Rattle.tandem_base.specs.declared.names.Place.{Place}
 use Rattle.matching.specs.declared.stores.Tracked.{Tracked}
-use Rattle.trace_model.specs.declared.retirements.TraceEntry.{TraceEntry}
+use Rattle.trace_model.specs.declared.retirements.KeptUse.{KeptUse}
 use Rattle.trace_model.specs.Groups.{parts_of}
-use Rattle.trace_model.specs.KeptOps.{ops_kept, place_tracked}
+use Rattle.trace_model.specs.Tracers.{ops_seen, place_tracked}
 use Rattle.trace_model.specs.Marks.{eight, place_in}
 use Rattle.trace_model.proofs.building.push_ops.Goals as goal
 
@@ -11,8 +11,8 @@ pub returns-in-Stored : goal.returns-in-Stored
 returns-in-Stored c image before s =
     let access = c.in-Stored.access in
     subst
-    (λ (e : TraceEntry). OnOk c.push_parts-in-Stored.result
-    (c.push_parts-in-Stored.new.list ≡ c.args.list.now ++ ops_kept image before e)) (sym c.in-Stored.is)
+    (λ (u : KeptUse). OnOk c.push_parts-in-Stored.result
+    (c.push_parts-in-Stored.new.list ≡ c.args.list.now ++ ops_seen image before u)) (sym c.in-Stored.is)
     (subst
     (λ (places : List (Option Place)). OnOk c.push_parts-in-Stored.result
     (c.push_parts-in-Stored.new.list ≡ c.args.list.now ++ parts_of access (place_in places)))

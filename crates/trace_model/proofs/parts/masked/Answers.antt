@@ -1,4 +1,4 @@
-use Rattle.std.proofs.Common.{ℕ, List, ◌<◌, ◌≡◌, ◌∷◌, ◌++◌, [], length, take, cond, get_or, rules, sym, ap, ◌∙◌, arith}
+use Rattle.std.proofs.Common.{ℕ, List, ◌<◌, ◌≡◌, ◌∷◌, ◌++◌, [], length, cond, get_or, sym, ap, ◌∙◌, arith}
 use Rattle.std.proofs.lemmas.List.{length-set, take_more_set}
 use Rattle.trace_model.specs.Marks.{is_marked}
 use Rattle.trace_model.proofs.Marks.{masked_more}

@@ -1,4 +1,4 @@
-use Rattle.std.proofs.Common.{ℕ, suc, ◌-◌, ◌≡◌, ◌∷◌, ◌++◌, [], List, false, not, sym, ap, ◌∙◌, arith}
+use Rattle.std.proofs.Common.{ℕ, suc, ◌-◌, ◌≡◌, ◌++◌, List, false, sym, ap, ◌∙◌, arith}
 use Rattle.rvwmo_model.specs.declared.operations.Op.{Op}
 use Rattle.trace_model.specs.Groups.{parts_below, part_at, some_below, same_place}
 use Rattle.trace_model.specs.Marks.{place_in}

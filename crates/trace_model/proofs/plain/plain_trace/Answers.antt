@@ -1,10 +1,10 @@
-use Rattle.std.proofs.Common.{ℕ, ◌+◌, ◌≡◌, List, ◌∷◌, Option, Some, IfNone, length, reverse, take, drop, slice_get}
-use Rattle.std.proofs.Common.{sym, ap, subst, ◌∙◌, arith, le_of_lt}
+use Rattle.std.proofs.Common.{◌+◌, ◌≡◌, ◌∷◌, Option, Some, IfNone, length, reverse, take, drop, slice_get}
+use Rattle.std.proofs.Common.{sym, subst, ◌∙◌, arith, le_of_lt}
 use Rattle.std.proofs.lemmas.Option.{slice_get_within}
 use Rattle.elf_image.specs.Images.{loaded_of}
 use Rattle.verdict_report.specs.declared.fault.Fault.{Fault}
 use Rattle.matching.specs.Settings.{number_after}
-use Rattle.trace_model.specs.KeptOps.{Follows}
+use Rattle.trace_model.specs.Tracers.{Follows}
 use Rattle.trace_model.proofs.Arriving.{arrives, arrived, split_at}
 use Rattle.trace_model.proofs.plain.plain_trace.Goals as goal
 

@@ -1,5 +1,0 @@
-use Rattle.byte_memory.specs.Captures.{FindsForeign}
-use Rattle.byte_memory.proofs.capture.latest_foreign.Given as goal
-
-abbrev pub invariant-loop-k : goal.invariant-loop-k
-invariant-loop-k l = FindsForeign l.memory l.hart l.base l.k l.found

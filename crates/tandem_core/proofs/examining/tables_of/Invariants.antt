@@ -1,7 +1,0 @@
-use Rattle.std.proofs.Common.{reverse, take}
-use Rattle.elf_image.specs.Images.{loaded_of}
-use Rattle.trace_model.specs.KeptOps.{Follows}
-use Rattle.tandem_core.proofs.examining.tables_of.Given as goal
-
-abbrev pub invariant-loop-k : goal.invariant-loop-k
-invariant-loop-k l = Follows (loaded_of l.image) l.tracer (reverse (take l.k l.messages))
