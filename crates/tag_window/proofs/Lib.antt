@@ -1,0 +1,9 @@
+pub mod Arrivals
+pub mod Chains
+pub mod Finding
+pub mod Held
+pub mod Later
+pub mod Lives
+pub mod Orders
+pub mod Slotted
+pub mod TagLists

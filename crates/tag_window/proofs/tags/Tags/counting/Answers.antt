@@ -1,0 +1,36 @@
+use Rattle.std.proofs.Common.{ℕ, ◌≡◌, ◌+◌, ◌∙◌, Some, None, is_some, sym, ap, subst, List, arith}
+use Rattle.std.specs.List.{slice_index}
+use Rattle.tag_window.specs.Order.{live, with_tag}
+use Rattle.tag_window.specs.Slots.{no_read, place_of_read, tagged}
+use Rattle.tag_window.specs.Windows.{Window, counting, IsPartOf, IsLowestMissing}
+use Rattle.tag_window.proofs.Held.{linked, chain_from, part_of, lowest_missing}
+use Rattle.tag_window.proofs.tags.Tags.counting.Goals as goal
+
+pub slots_of-requires : goal.slots_of-requires
+slots_of-requires c =
+    let t = c.self.inside in
+    linked place_of_read no_read t.reads t.read_items.items c.self.invariant.0 c.self.invariant.2 c.args.tag
+    c.slot_of-head.result c.slot_of-head.ensures
+
+pub returns-in-None-clause-all : goal.returns-in-None-clause-all
+returns-in-None-clause-all c = λ k l.
+    let t = c.self.inside in
+    let v = c.self.invariant in
+    let chain = chain_from place_of_read no_read t.reads t.read_items.items v.0 v.2 c.args.tag c.slot_of-head.result
+    c.slot_of-head.ensures in
+    let found = (c.in-None.ensures {u = tt}).found in
+    subst (λ (w : Window). IsPartOf c.args.tag c.args.extent.now.addr w.reads k (slice_index c.parts_of.result k))
+    c.self.view_is
+    (part_of t.reads t.read_items.items v.0 v.2 c.args.tag c.args.extent.now.addr c.args.extent.now.len k
+    (slice_index c.parts_of.result k) c.slots_of.new.slots
+    (λ i m. found i m (with_tag c.args.tag (live t.reads)) chain) l (c.parts_of.ensures k l))
+
+pub returns-in-Some-clause-missing : goal.returns-in-Some-clause-missing
+returns-in-Some-clause-missing c =
+    let t = c.self.inside in
+    let v = c.self.invariant in
+    let chain = chain_from place_of_read no_read t.reads t.read_items.items v.0 v.2 c.args.tag c.slot_of-head.result
+    c.slot_of-head.ensures in
+    subst (λ (w : Window). IsLowestMissing c.args.tag c.args.extent.now w.reads c.in-Some.at) c.self.view_is
+    (lowest_missing t.reads t.read_items.items v.0 v.2 c.args.tag c.slot_of-head.result chain c.args.extent.now
+    c.in-Some.at (c.in-Some.ensures {u = tt}).missing)

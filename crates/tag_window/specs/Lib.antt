@@ -1,0 +1,4 @@
+pub mod Events
+pub mod Order
+pub mod Slots
+pub mod Windows

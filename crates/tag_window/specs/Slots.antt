@@ -1,0 +1,95 @@
+-- What stands in the slots of the reports that are there.
+use Rattle.std.specs.Prelude.{ℕ, ◌≡◌, ◌≢◌, ◌+◌, ◌<◌, ◌≤◌, List, [], ◌∷◌, length, map, Option, None, Some, slice_index}
+use Rattle.std.specs.Prelude.{slice_index_or, if◌then◌else◌}
+use Rattle.tandem_base.specs.Places.{comes_before}
+use Rattle.tandem_base.specs.declared.extent.Extent.{Extent}
+use Rattle.tandem_base.specs.declared.names.Position.{Position}
+use Rattle.byte_memory.specs.declared.capture.Capture.{Capture}
+use Rattle.slab.specs.Slab.{Slab, get, slab_len}
+use Rattle.tag_window.specs.declared.links.Link.{Link}
+use Rattle.tag_window.specs.declared.order.Arrival.{Arrival}
+use Rattle.tag_window.specs.Order.{IsChain}
+use Rattle.tag_window.specs.declared.reports.Read.{Read}
+use Rattle.tag_window.specs.declared.reports.Early.{Early}
+use Rattle.msg_frames.specs.Pieces.{has}
+use Rattle.tag_window.specs.Windows.{Tagged}
+
+-- the reports in the slots, each with its tag; `none` stands where there is no slot
+abbrev pub tagged : {T : Type 0} → T → List T → List Arrival → List (Tagged T)
+tagged none items cs = map (λ a. record { tag = a.tag; item = slice_index_or items a.slot none }) cs
+
+-- each has its slot, and the report there has its place
+abbrev pub AreIn : {T : Type 0} → (T → Position) → T → List T → List Arrival → Type 0
+AreIn place none items [] = Unit {0}
+AreIn place none items (a ∷ cs) =
+    (a.slot < length items) × (place (slice_index_or items a.slot none) ≡ a.place) × AreIn place none items cs
+
+-- what was never seen
+abbrev pub no_capture : Capture
+no_capture = record { place = record { message = 0; insert = 0 }; base = 0; values = []; last = [] }
+
+-- a Read that was never made
+abbrev pub no_read : Read
+no_read = record { piece = record { addr = 0; bytes = [] }; seen = no_capture }
+
+-- a Bypass that was never made
+abbrev pub no_bypass : Early
+no_bypass = record {
+  piece = record { addr = 0; bytes = [] };
+  seen = record { seen = no_capture; other = []; foreign = None };
+}
+
+-- where a Read came
+abbrev pub place_of_read : Read → Position
+place_of_read r = r.seen.place
+
+-- where a Bypass came
+abbrev pub place_of_bypass : Early → Position
+place_of_bypass b = b.seen.seen.place
+
+-- the slots of these reports are below this number
+abbrev pub AllWithin : ℕ → List Arrival → Type 0
+AllWithin size [] = Unit {0}
+AllWithin size (a ∷ cs) = (a.slot < size) × AllWithin size cs
+
+-- from this slot the links lead through reports in slots below this number, of which there are no more than links
+pub record AreLinked (links : Slab Link) (head : Option ℕ) (size : ℕ) : Type 0 where
+  pub reports : List Arrival
+  pub chain : IsChain (get links) head reports
+  pub within : AllWithin size reports
+  pub fits : length reports ≤ slab_len links
+
+-- the slot of the first of these Reads that has the byte at x
+abbrev pub slot_with : ℕ → List Read → List Arrival → Option ℕ
+slot_with x items [] = None
+slot_with x items (a ∷ cs) =
+    if has (slice_index_or items a.slot no_read).piece x then Some a.slot else slot_with x items cs
+
+-- the first of the linked Reads that has the byte at x is in this slot
+abbrev pub FindsAt : Slab Link → Option ℕ → List Read → ℕ → ℕ → Type 0
+FindsAt links head items x slot = (cs : List Arrival) → IsChain (get links) head cs → Some slot ≡ slot_with x items cs
+
+-- none of the linked Reads has the byte at x
+abbrev pub MissesAt : Slab Link → Option ℕ → List Read → ℕ → Type 0
+MissesAt links head items x = (cs : List Arrival) → IsChain (get links) head cs → None ≡ slot_with x items cs
+
+-- none of the linked Reads has the byte of the extent at `at`, and each byte before it one of them has
+pub record IsFirstMiss (links : Slab Link) (head : Option ℕ) (items : List Read) (extent : Extent) (at : ℕ) : Type 0
+  where
+    pub k : ℕ
+    pub inside : k < extent.len
+    pub is : at ≡ extent.addr + k
+    pub misses : MissesAt links head items at
+    pub finds : (i : ℕ) → i < k → (slot : ℕ) × FindsAt links head items (extent.addr + i) slot
+
+-- j is the lowest number up to k with the same slot as k
+pub record IsFirstSame (slots : List ℕ) (k j : ℕ) : Type 0 where
+  pub upto : j ≤ k
+  pub same : slice_index slots j ≡ slice_index slots k
+  pub lowest : (i : ℕ) → i < j → slice_index slots i ≢ slice_index slots k
+
+-- the earlier of two places, where there are two
+abbrev pub earlier_of : Option Position → Option Position → Option Position
+earlier_of None b = b
+earlier_of (Some p) None = Some p
+earlier_of (Some p) (Some q) = if comes_before q p then Some q else Some p
