@@ -9,4 +9,6 @@ pub mod Checks
 pub mod Answers
 pub mod TextWords
 pub mod TextRuns
+pub mod GenWords
+pub mod GenRuns
 pub mod Programs

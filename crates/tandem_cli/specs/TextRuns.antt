@@ -212,7 +212,7 @@ abbrev pub TextReadIs : List ℕ → List Named → TextRead → Option (List �
 TextReadIs name files text.Missing left = content_of files name ≡ None
 TextReadIs name files text.Unopened left = Unit {0}
 TextReadIs name files text.Unread left = TakesAtMostOf name files most_text_bytes left
-TextReadIs name files text.Memory left = TakesAtMostOf name files (most_text_bytes + 1) left
+TextReadIs name files text.Memory left = TakesAtMostOf name files most_text_bytes left
 TextReadIs name files text.TooLarge left =
     (content : List ℕ) × (content_of files name ≡ Some content) × (most_text_bytes < length content)
     × (left ≡ Some (drop (most_text_bytes + 1) content))

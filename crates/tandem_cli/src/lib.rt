@@ -3,6 +3,9 @@
 
 mod chosen;
 mod file_fault;
+mod gen_lines;
+mod gen_words;
+mod gens;
 mod intake;
 mod number;
 mod options;
@@ -18,6 +21,7 @@ mod text_words;
 mod texts;
 mod words;
 
+pub use gens::run_gen;
 pub use program::run_program;
 pub use run::run_check;
 pub use texts::run_text;

@@ -6,14 +6,26 @@ ghost use Rattle.std.specs.String.{string_bytes};
 ghost use Rattle.std.specs.Vec.Iter.{into_iter_items};
 ghost use Rattle.tandem_cli.specs.Answers.{AnswersUsage};
 ghost use Rattle.tandem_cli.specs.Checks.{CountsStand};
-ghost use Rattle.tandem_cli.specs.Programs.{AnswersWords, asks_nothing, names_text};
+ghost use Rattle.tandem_cli.specs.Programs.{AnswersWords, asks_nothing, command_named, command_of};
 
+use super::gens::run_gen;
 use super::run::run_check;
 use super::texts::run_text;
 use std::alloc::{AllocError, Global};
 use std::env::Args;
 use std::io::{self, ErrorKind};
 use tandem_io::{Inputs, Sink};
+
+/// The commands of the program.
+#[derive(Clone, Copy, Debug, PartialEq, Eq)]
+pub enum Command {
+    /// `check`, and every word that names no other command.
+    Check,
+    /// `gen`.
+    Gen,
+    /// `text`.
+    Text,
+}
 
 /// Does all that the program does with the words that it was started with, its own name first, and
 /// answers the status that it ends with. Words that are no text are of another form; where memory
@@ -30,7 +42,7 @@ pub fn run_program<I: Inputs, K: Sink>(
     ensures no_text { OnErr started (AnswersUsage result
         (K.written out.old) (K.written out.new) (K.faults out.old) (K.faults out.new)) }
     ensures refused { IfErr started (λ error. error_kind error ≡ ErrorKind.OutOfMemory → result ≡ 7) }
-    ensures usage { IfOk started (λ args. asks_nothing (names_text (map string_bytes (drop 1 (into_iter_items args))))
+    ensures usage { IfOk started (λ args. asks_nothing (command_of (map string_bytes (drop 1 (into_iter_items args))))
         (map string_bytes (drop 1 (into_iter_items args))) → ins.new ≡ ins.old) }
     ensures untouched { OnErr started (ins.new ≡ ins.old) }
     ensures counts { CountsStand (I.slots ins.old) (I.slots ins.new) }
@@ -49,7 +61,7 @@ fn run_words<I: Inputs, K: Sink>(alloc: Global, args: Args, ins: &mut I, out: &m
     ensures words { AnswersWords (map string_bytes (drop 1 (into_iter_items args)))
         (I.names ins.old) (I.slots ins.old) (I.slots ins.new) result
         (K.written out.old) (K.written out.new) (K.faults out.old) (K.faults out.new) }
-    ensures usage { asks_nothing (names_text (map string_bytes (drop 1 (into_iter_items args))))
+    ensures usage { asks_nothing (command_of (map string_bytes (drop 1 (into_iter_items args))))
         (map string_bytes (drop 1 (into_iter_items args))) → ins.new ≡ ins.old }
     ensures counts { CountsStand (I.slots ins.old) (I.slots ins.new) }
     ensures names { I.names ins.new ≡ I.names ins.old }
@@ -66,26 +78,39 @@ fn run_command<I: Inputs, K: Sink>(alloc: Global, words: &[String], ins: &mut I,
     ensures words { AnswersWords (map string_bytes words.now)
         (I.names ins.old) (I.slots ins.old) (I.slots ins.new) result
         (K.written out.old) (K.written out.new) (K.faults out.old) (K.faults out.new) }
-    ensures usage { asks_nothing (names_text (map string_bytes words.now)) (map string_bytes words.now) →
+    ensures usage { asks_nothing (command_of (map string_bytes words.now)) (map string_bytes words.now) →
         ins.new ≡ ins.old }
     ensures counts { CountsStand (I.slots ins.old) (I.slots ins.new) }
     ensures names { I.names ins.new ≡ I.names ins.old }
     ensures count { K.faults out.old ≤ K.faults out.new }
 {
-    if names_text(words) {
-        run_text(alloc, words, ins, out)
-    } else {
-        run_check(alloc, words, ins, out)
+    match command_of(words) {
+        Command::Text => run_text(alloc, words, ins, out),
+        Command::Gen => run_gen(alloc, words, out),
+        Command::Check => run_check(alloc, words, ins, out),
     }
 }
 
-// Whether the first word is `text`.
-fn names_text(words: &[String]) -> bool
-    ensures { result ≡ names_text (map string_bytes words.now) }
+// The command that the words name.
+fn command_of(words: &[String]) -> Command
+    ensures { result ≡ command_of (map string_bytes words.now) }
 {
     match words.first() {
-        Some(word) => word.as_str() == "text",
-        None => false,
+        Some(word) => command_named(word.as_str()),
+        None => Command::Check,
+    }
+}
+
+// The command that a first word names: every other word than `text` and `gen` is left to `check`.
+fn command_named(word: &str) -> Command
+    ensures { result ≡ command_named word.now }
+{
+    if word == "text" {
+        Command::Text
+    } else if word == "gen" {
+        Command::Gen
+    } else {
+        Command::Check
     }
 }
 

@@ -1,0 +1,4 @@
+pub mod Turns
+pub mod Numbers
+pub mod Fitting
+pub mod Sound
