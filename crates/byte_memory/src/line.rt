@@ -82,7 +82,7 @@ impl Line {
         requires { k < 64 }
         ensures { result ≡ other_writer (written_in self.now k) }
     {
-        let _last = self.last[k]?;
+        self.last[k]?;
         self.other[k]
     }
 }

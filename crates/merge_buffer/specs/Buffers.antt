@@ -33,10 +33,6 @@ abbrev pub lines_of : ℕ → Slab Waiting → List (ℕ × ℕ) → List (ℕ �
 lines_of n waiting [] = []
 lines_of n waiting (e ∷ es) = (e.0, chain_of n (get waiting) (Some e.1)) ∷ lines_of n waiting es
 
--- a buffer that holds as many as may wait is full, or takes one more
-abbrev pub took : Buffer → Took
-took buffer = if buffer.count == buffer.capacity then Full buffer.capacity else Yes
-
 -- what waits on a line after the answer to one more Insert
 abbrev pub after_insert : Took → Part → ℕ → List Part → List Part
 after_insert Yes p line ps = parts_with p line ps

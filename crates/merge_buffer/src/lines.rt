@@ -52,7 +52,8 @@ impl Lines {
     ghost use Rattle.std.specs.Prelude.{◌≡◌, ◌+◌, ◌*◌, ◌/◌, ◌%◌, ◌<◌, ◌≤◌, ◌==◌, ℕ};
     ghost use Rattle.std.specs.Prelude.{List, [], ◌∷◌, length, reverse, slice_get, IfOk};
     ghost use Rattle.merge_buffer.specs.Parts.{AllBelow, IsWithinLine, Matches, DiffersAt, without_line};
-    ghost use Rattle.merge_buffer.specs.Buffers.{Buffer, waiting_on, took, after_insert};
+    ghost use Rattle.merge_buffer.specs.Buffers.{Buffer, waiting_on, after_insert};
+    ghost use Rattle.tandem_base.specs.Room.{took};
     ghost use Rattle.merge_buffer.specs.Buffers.{count_after, IfParts, IfMismatch};
 
     /// An empty buffer, with room for `capacity` Inserts. No other call takes memory.
@@ -69,7 +70,8 @@ impl Lines {
 
     /// How many Inserts wait.
     pub fn count(&self) -> usize
-        ensures { result ≡ self.now.count }
+        ensures count { result ≡ self.now.count }
+        ensures room { self.now.count ≤ self.now.capacity }
     {
         self.waiting.len()
     }
@@ -81,7 +83,7 @@ impl Lines {
         requires within { IsWithinLine piece.now }
         // Messages are numbered upward, and no Insert waits before its message.
         requires newer { AllBelow number (waiting_on self.old (piece.now.addr / 64)) }
-        ensures took { result ≡ took self.old }
+        ensures took { result ≡ took self.old.count self.old.capacity }
         ensures waits { (line : ℕ) → waiting_on self.new line
             ≡ after_insert result (record { tag = tag; piece = piece.now; number = number }) line
             (waiting_on self.old line) }

@@ -1,7 +1,7 @@
 -- Messages are accepted exactly where they are lawful and no count was over its bound.
-use Rattle.std.proofs.Common.{ℕ, ◌<◌, ◌≡◌, Bool, true, false, cond, List, [], ◌∷◌, length, All, option_map, Option}
+use Rattle.std.proofs.Common.{◌≡◌, Bool, true, false, cond, List, [], ◌∷◌, All, option_map, Option}
 use Rattle.std.proofs.Common.{Some}
-use Rattle.std.proofs.Common.{None, refl, sym, ap, subst, ◌∙◌, arith}
+use Rattle.std.proofs.Common.{None, refl}
 use Rattle.std.proofs.lemmas.List.Elements.{All-nil, All-cons, All-head, All-tail}
 use Rattle.tandem_base.specs.FirstFault.{◌or_else◌}
 use Rattle.msg_frames.specs.declared.message.Message.{Message}
@@ -9,10 +9,10 @@ use Rattle.msg_frames.specs.Cut.{is_end}
 use Rattle.msg_frames.specs.Frames.{Fits}
 use Rattle.elf_image.specs.Images.{Loaded}
 use Rattle.verdict_report.specs.declared.fault.Fault.{Fault}
-use Rattle.order_laws.specs.Decisions.{Decision, Offends, Passes, Accepts, decision_at, IsUndecided}
+use Rattle.order_laws.specs.Decisions.{Decision, Offends, Passes, Accepts, IsUndecided}
 use Rattle.order_laws.specs.Faults.{message_fault, IsFaultless}
 use Rattle.order_laws.specs.Lawful.{EndsOnce, Lawful, IsAcceptedList, AcceptedIsLawful}
-use Rattle.order_laws.specs.Limits.{Bounds, Overrun, overrun_of, IsInBounds, StaysInBounds}
+use Rattle.order_laws.specs.Limits.{Bounds, Overrun, overrun_of, StaysInBounds}
 use Rattle.order_laws.proofs.Counting.{newest_in_bounds, none_over, over_none}
 use Rattle.order_laws.specs.Prefixes.{IsLegal}
 use Rattle.order_laws.proofs.Faultless.{faultless_legal, legal_faultless}

@@ -1,7 +1,7 @@
 -- After one more message the counts of its own hart tell whether any is over its bound.
-use Rattle.std.proofs.Common.{ℕ, ◌+◌, ◌<◌, ◌≤◌, ◌≡◌, Bool, true, false, ltb, eqb, cond, List, [], ◌∷◌, length}
+use Rattle.std.proofs.Common.{ℕ, ◌<◌, ◌≤◌, ◌≡◌, Bool, true, false, ltb, eqb, cond, List, [], ◌∷◌, length}
 use Rattle.std.proofs.Common.{Option, Some, None}
-use Rattle.std.proofs.Common.{refl, sym, subst, ◌∙◌, inl, inr, arith}
+use Rattle.std.proofs.Common.{refl, subst, inl, inr, arith}
 use Rattle.std.proofs.lemmas.Bool.{cases_Bool, ltb-false, ltb-true, eqb-true}
 use Rattle.tandem_base.specs.FirstFault.{◌or_else◌}
 use Rattle.msg_frames.specs.declared.message.Message.{Message}
@@ -10,7 +10,6 @@ use Rattle.verdict_report.specs.declared.verdict.Limit.{Limit}
 use Rattle.verdict_report.specs.declared.verdict.Limit.TheVariants as limit
 use Rattle.matching.specs.Counts.{reads_of, stores_of}
 use Rattle.trace_model.specs.Kept.{kept_of}
-use Rattle.trace_model.specs.Laws.{CountsStay}
 use Rattle.trace_model.proofs.CleanLists.{others_count}
 use Rattle.order_laws.specs.Limits.{Bounds, Overrun, over_bound, overrun_of, IsUpTo, IsInBounds, StaysInBounds}
 use Rattle.order_laws.specs.Limits.{OwnHartTells}

@@ -1,16 +1,12 @@
 -- Where a message breaks the order of memory.
 use Rattle.std.proofs.Common.{ℕ, ◌<◌, ◌≡◌, inl, inr, Bool, true, false, cond, not, ◌||◌, is_some, List, [], ◌∷◌}
-use Rattle.std.proofs.Common.{length}
 use Rattle.std.proofs.Common.{Option, Some, None, refl, sym, ap, subst, ◌∙◌, arith}
 use Rattle.std.proofs.lemmas.Bool.{false≢true, or_right}
 use Rattle.std.proofs.lemmas.Bool.Decides.{nat_tests}
-use Rattle.std.specs.List.{Contains}
 use Rattle.tandem_base.specs.declared.names.Place.{Place}
-use Rattle.tandem_base.specs.Places.{earlier}
 use Rattle.msg_frames.specs.declared.message.Head.{Head}
 use Rattle.msg_frames.specs.declared.message.Body.{Body}
 use Rattle.msg_frames.specs.declared.message.Body.TheVariants as body
-use Rattle.msg_frames.specs.declared.message.LineWrite.{LineWrite}
 use Rattle.msg_frames.specs.declared.message.Message.{Message}
 use Rattle.msg_frames.specs.declared.message.Piece.{Piece}
 use Rattle.msg_frames.specs.declared.message.Retire.{Retire}
@@ -23,8 +19,7 @@ use Rattle.rvwmo_model.specs.Last.{IsRetiring}
 use Rattle.rvwmo_model.specs.Legal.{Legal}
 use Rattle.rvwmo_model.specs.Order.{precedes, standing, standing_of, stands_before, performed}
 use Rattle.rvwmo_model.specs.Rules.{Broken}
-use Rattle.growth_laws.specs.Kinds.{WellKinded}
-use Rattle.growth_laws.specs.Growth.{Same, Growth, Performs, grow_same, grow_early}
+use Rattle.growth_laws.specs.Growth.{Same, Performs, grow_early}
 use Rattle.growth_laws.specs.Laws.{IsLeastRule}
 use Rattle.growth_laws.proofs.FaultSteps.{insn_breaks_its_own}
 use Rattle.growth_laws.proofs.FaultStores.{stores_break_pairs}
@@ -39,7 +34,7 @@ use Rattle.trace_model.specs.Parts.{IsPartFor, ArePartsFor}
 use Rattle.trace_model.specs.Traces.{trace_of, entry_in, places}
 use Rattle.trace_model.proofs.CleanLists.{each_message_grows}
 use Rattle.trace_model.proofs.Lists.{In, listed}
-use Rattle.order_laws.specs.FaultLaws.{IsPerformedBy, IsInsertedLater, IsBrokenBy, OrderFaultHasPlace}
+use Rattle.order_laws.specs.FaultLaws.{IsInsertedLater, IsBrokenBy}
 use Rattle.order_laws.specs.FaultLaws.{OrderFaultsHavePlaces}
 use Rattle.order_laws.specs.Prefixes.{IsLegal}
 use Rattle.order_laws.specs.Retired.{retired_tag, performs_stores}

@@ -1,5 +1,5 @@
 -- No message has a fault exactly where all match and their order is legal.
-use Rattle.std.proofs.Common.{ℕ, ◌<◌, ◌≡◌, List, [], ◌∷◌, length, Option, Some, None, refl, sym, subst, ◌∙◌, arith}
+use Rattle.std.proofs.Common.{ℕ, ◌≡◌, List, [], ◌∷◌, Option, Some, None, refl, arith}
 use Rattle.msg_frames.specs.declared.message.Message.{Message}
 use Rattle.elf_image.specs.Images.{Loaded}
 use Rattle.tandem_base.specs.FirstFault.{◌or_else◌}
@@ -14,7 +14,7 @@ use Rattle.rvwmo_model.specs.LastAnswer.{newest_answer}
 use Rattle.matching.specs.Matching.{IsClean, match_fault}
 use Rattle.trace_model.specs.Traces.{trace_of}
 use Rattle.trace_model.proofs.CleanLists.{lists_are_well_kinded}
-use Rattle.order_laws.specs.Faults.{last_of, order_fault_of, order_fault, message_fault, IsFaultless}
+use Rattle.order_laws.specs.Faults.{last_of, order_fault_of, order_fault, IsFaultless}
 use Rattle.order_laws.specs.FaultLaws.{OrderFaultIsLast, FaultlessIsLegal, EndBreaksNothing}
 use Rattle.order_laws.specs.Prefixes.{IsLegal}
 use Rattle.order_laws.specs.Retired.{retired_tag}

@@ -1,17 +1,14 @@
 -- From a legal trace a message gives a legal one exactly where nothing stands of what is asked at it.
-use Rattle.std.proofs.Common.{ℕ, ◌<◌, ◌≡◌, inl, Bool, true, false, cond, is_some, List, [], ◌∷◌, length, Option}
+use Rattle.std.proofs.Common.{ℕ, ◌≡◌, inl, Bool, true, false, cond, is_some, List, [], ◌∷◌, Option}
 use Rattle.std.proofs.Common.{Some, None}
-use Rattle.std.proofs.Common.{refl, sym, ap, subst, ◌∙◌, arith}
+use Rattle.std.proofs.Common.{refl, sym, ap, ◌∙◌, arith}
 use Rattle.msg_frames.specs.declared.message.Head.{Head}
 use Rattle.msg_frames.specs.declared.message.Body.{Body}
 use Rattle.msg_frames.specs.declared.message.Body.TheVariants as body
 use Rattle.msg_frames.specs.declared.message.Message.{Message}
 use Rattle.msg_frames.specs.declared.message.Retire.{Retire}
-use Rattle.msg_frames.specs.declared.message.OpenInfo.{OpenInfo}
 use Rattle.msg_frames.specs.declared.message.Piece.{Piece}
 use Rattle.elf_image.specs.Images.{Loaded}
-use Rattle.tandem_base.specs.FirstFault.{◌or_else◌}
-use Rattle.rvwmo_model.specs.declared.instructions.Retired.{Retired}
 use Rattle.rvwmo_model.specs.declared.operations.Op.{Op}
 use Rattle.rvwmo_model.specs.declared.traces.Trace.{Trace}
 use Rattle.rvwmo_model.specs.InForm.{IsOf}
@@ -23,9 +20,9 @@ use Rattle.growth_laws.specs.Growth.{Same, Growth, grow_same, grow_early, grow_i
 use Rattle.growth_laws.specs.Corollaries.{GrowsRight}
 use Rattle.growth_laws.proofs.Right.{legal_where_right}
 use Rattle.growth_laws.proofs.Starts.{starts_well}
-use Rattle.matching.specs.Matching.{IsClean, stream_fault_of, body_fault_of, retire_fault_of}
+use Rattle.matching.specs.Matching.{IsClean, stream_fault_of, retire_fault_of}
 use Rattle.matching.specs.Tags.{is_early}
-use Rattle.trace_model.specs.Entries.{Entry, Places, entry_ops}
+use Rattle.trace_model.specs.Entries.{Entry}
 use Rattle.trace_model.specs.Growths as growths
 use Rattle.trace_model.specs.Traces.{trace_of, entry_in, places}
 use Rattle.trace_model.proofs.CleanLists.{lists_are_well_kinded, each_message_grows}

@@ -1,30 +1,28 @@
 -- What it means that a message has its place in the stream, and that a part of a store, a Write or a Bypass fits.
 use Rattle.std.proofs.Common.{ℕ, ◌+◌, ◌<◌, ◌≡◌, ◌↔◌, Bool, true, false, cond, not, ltb, ◌&&◌, is_some, List, []}
 use Rattle.std.proofs.Common.{◌∷◌, length}
-use Rattle.std.proofs.Common.{Option, Some, None, refl, sym, ap, subst, ◌∙◌, inl, inr}
-use Rattle.std.proofs.lemmas.Bool.{false≢true, cases_Bool, and_parts, and_from, not-false}
+use Rattle.std.proofs.Common.{Option, Some, None, refl, sym, ap, subst, ◌∙◌}
+use Rattle.std.proofs.lemmas.Bool.{false≢true, and_parts, and_from}
 use Rattle.tandem_base.specs.FirstFault.{◌or_else◌}
 use Rattle.msg_frames.specs.declared.message.Head.{Head}
 use Rattle.msg_frames.specs.declared.message.LineWrite.{LineWrite}
 use Rattle.msg_frames.specs.declared.message.Message.{Message}
 use Rattle.msg_frames.specs.declared.message.Piece.{Piece}
 use Rattle.elf_image.specs.Images.{Loaded}
-use Rattle.verdict_report.specs.declared.fault.Fault.{Fault}
 use Rattle.matching.specs.declared.reports.OpenReport.{OpenReport}
 use Rattle.matching.specs.declared.stores.Fate.{Fate}
 use Rattle.matching.specs.declared.stores.Held.{Held}
 use Rattle.matching.specs.declared.stores.Stored.{Stored}
 use Rattle.matching.specs.Compares.{tag_fault_of}
 use Rattle.matching.specs.Fates.{is_fresh}
-use Rattle.matching.specs.Matching.{stream_fault_of, part_fault_of, bypass_fault_at}
-use Rattle.matching.specs.PartFaults.{poke_fault_of, late_fault_of, range_fault_of, is_in_image, is_in_line}
+use Rattle.matching.specs.Matching.{stream_fault_of, part_fault_of}
+use Rattle.matching.specs.PartFaults.{poke_fault_of, late_fault_of, range_fault_of}
 use Rattle.matching.specs.PartFaults.{is_within}
 use Rattle.matching.specs.PartFaults.{is_again, is_known, unknown_fault_of, data_fault_in, data_fault_of, is_aligned}
 use Rattle.matching.specs.PartFaults.{is_whole, torn_store_fault_of, part_fault_in, fate_at, second_bypass_fault}
 use Rattle.msg_frames.specs.Pieces.{byte_written}
 use Rattle.matching.specs.PartFaults.{byte_waiting, merge_fault_in, first_unmerged, merge_fault_of}
 use Rattle.msg_frames.specs.Pieces.{has, byte_in}
-use Rattle.matching.specs.Pieces.{first_other}
 use Rattle.matching.specs.Runs.{bypass_at}
 use Rattle.matching.specs.Searches.{first_below}
 use Rattle.matching.specs.Settings.{is_open, harts_of}

@@ -1,27 +1,25 @@
 -- All messages of a list match exactly where the stream is well-formed, every retirement is the step, every store that
 -- retired is written, and every successful SC has its LR.
-use Rattle.std.proofs.Common.{ℕ, ◌≡◌, ◌↔◌, Bool, true, false, ◌&&◌, List, [], ◌∷◌, All, Option, Some, None, refl}
-use Rattle.std.proofs.Common.{sym, ap}
-use Rattle.std.proofs.Common.{subst, ◌∙◌}
+use Rattle.std.proofs.Common.{◌≡◌, ◌↔◌, Bool, true, false, ◌&&◌, List, [], ◌∷◌, All, None, refl}
+use Rattle.std.proofs.Common.{sym}
+use Rattle.std.proofs.Common.{◌∙◌}
 use Rattle.std.proofs.lemmas.Bool.{false≢true, and_parts, and_from}
 use Rattle.std.proofs.lemmas.List.Elements.{All-head, All-tail}
-use Rattle.tandem_base.specs.FirstFault.{◌or_else◌}
 use Rattle.msg_frames.specs.declared.message.Head.{Head}
 use Rattle.msg_frames.specs.declared.message.Body.{Body}
 use Rattle.msg_frames.specs.declared.message.Body.TheVariants as body
 use Rattle.msg_frames.specs.declared.message.Message.{Message}
 use Rattle.msg_frames.specs.Cut.{is_end}
 use Rattle.elf_image.specs.Images.{Loaded}
-use Rattle.verdict_report.specs.declared.fault.Fault.{Fault}
-use Rattle.matching.specs.Matching.{IsClean, match_fault, stream_fault_of, body_fault_of, retire_fault_of}
+use Rattle.matching.specs.Matching.{IsClean, match_fault, stream_fault_of, body_fault_of}
 use Rattle.matching.specs.Matching.{part_fault_of, bypass_fault_at}
 use Rattle.matching.specs.Fates.{waiting}
-use Rattle.matching.specs.PartFaults.{poke_fault_of, late_fault_of, read_range_fault, insert_range_fault, is_in_space}
-use Rattle.matching.specs.PartFaults.{bypass_range_fault, is_in_image, is_in_line, merge_fault_of}
+use Rattle.matching.specs.PartFaults.{late_fault_of, read_range_fault, insert_range_fault, is_in_space}
+use Rattle.matching.specs.PartFaults.{bypass_range_fault, is_in_image, is_in_line}
 use Rattle.matching.specs.Tags.{last_tag, is_early}
 use Rattle.order_laws.specs.Formed.{IsInStream, IsFitting, IsWellFormed}
-use Rattle.order_laws.specs.Lawful.{EndsOnce, MatchedInWords}
-use Rattle.order_laws.specs.Stepped.{IsStep, AreSteps, IsPairedAt, ArePaired, AreWritten}
+use Rattle.order_laws.specs.Lawful.{MatchedInWords}
+use Rattle.order_laws.specs.Stepped.{ReportsStep, AreSteps, IsPairedAt, ArePaired, AreWritten}
 use Rattle.order_laws.proofs.FormedParts.{stream_is, poke_is, late_is, range_is, part_is, bypass_is, merge_is}
 use Rattle.order_laws.proofs.SteppedParts.{retire_is}
 use Rattle.order_laws.proofs.WrittenParts.{end_is}
@@ -30,13 +28,13 @@ use Rattle.order_laws.proofs.Tests.{both, then}
 -- what is said of one message but for its place in the stream
 record Said (image : Loaded) (before : List Message) (head : Head) (b : Body) : Type 0 where
   fits : IsFitting image before head b
-  steps : IsStep image before head b
+  steps : ReportsStep image before head b
   paired : IsPairedAt image before head b
   written : is_end b ≡ true → AreWritten image before
 
 module _ (image : Loaded) (before : List Message) (head : Head) (clean : IsClean image before) where
   -- where it is no End
-  said : (b : Body) → is_end b ≡ false → IsFitting image before head b → IsStep image before head b
+  said : (b : Body) → is_end b ≡ false → IsFitting image before head b → ReportsStep image before head b
       → IsPairedAt image before head b → Said image before head b
   said b g f s p =
       record { fits = f; steps = s; paired = p; written = λ e. absurd (false≢true (sym g ∙ e)) }

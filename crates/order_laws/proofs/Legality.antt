@@ -1,11 +1,9 @@
 -- The trace of a clean list, its growth, and the empty list.
-use Rattle.std.proofs.Common.{ℕ, ◌<◌, List, [], ◌∷◌, ◌++◌, length, inl, refl, arith}
+use Rattle.std.proofs.Common.{List, [], ◌∷◌, ◌++◌, inl, refl, arith}
 use Rattle.msg_frames.specs.declared.message.Message.{Message}
 use Rattle.elf_image.specs.Images.{Loaded}
 use Rattle.elf_image.specs.Images.{initial_byte}
 use Rattle.growth_laws.specs.Kinds.{WellKinded}
-use Rattle.growth_laws.specs.Growth.{Grows}
-use Rattle.growth_laws.specs.Laws.{StableSources}
 use Rattle.growth_laws.proofs.Starts.{starts_well}
 use Rattle.growth_laws.proofs.Chains.{no_mending, stable_sources}
 use Rattle.matching.specs.Matching.{IsClean}

@@ -1,11 +1,10 @@
 -- What it means that a Retire has its reports, and is the step.
-use Rattle.std.proofs.Common.{ℕ, ◌+◌, ◌%◌, ◌<◌, ◌≡◌, ◌↔◌, Bool, true, false, cond, not, eqb, ltb, nat_eq, ◌&&◌}
+use Rattle.std.proofs.Common.{ℕ, ◌+◌, ◌%◌, ◌<◌, ◌≡◌, ◌↔◌, Bool, true, false, cond, not, eqb, nat_eq, ◌&&◌}
 use Rattle.std.proofs.Common.{is_some, List}
-use Rattle.std.proofs.Common.{[], ◌∷◌, length, Option, Some, None, refl, sym, ap, subst, ◌∙◌, inl, inr}
-use Rattle.std.proofs.lemmas.Bool.{false≢true, cases_Bool, and_parts, and_from, eqb-true, eq-eqb, not-false}
+use Rattle.std.proofs.Common.{[], ◌∷◌, Option, Some, None, refl, sym, ap, subst, inl, inr}
+use Rattle.std.proofs.lemmas.Bool.{false≢true, and_parts, and_from, eqb-true, eq-eqb, not-false}
 use Rattle.std.specs.List.{Contains}
 use Rattle.std.specs.Option.{option_eq}
-use Rattle.tandem_base.specs.FirstFault.{◌or_else◌}
 use Rattle.msg_frames.specs.declared.csrs.CsrValue.{CsrValue}
 use Rattle.msg_frames.specs.declared.message.Head.{Head}
 use Rattle.msg_frames.specs.declared.message.Piece.{Piece}
@@ -15,14 +14,12 @@ use Rattle.elf_image.specs.Images.{Loaded}
 use Rattle.rv_step.specs.declared.effect.Effect.{Effect}
 use Rattle.rv_step.specs.Plans.{PlanOf}
 use Rattle.rv_step.specs.Steps.{Doing, trap, plain, counter, load, store, lr, sc, amo}
-use Rattle.verdict_report.specs.declared.fault.Fault.{Fault}
 use Rattle.matching.specs.declared.reports.OpenReport.{OpenReport}
 use Rattle.matching.specs.declared.run.Pair.{Pair}
-use Rattle.matching.specs.Compares.{pc_fault_of, word_fault_of, trap_fault_of, next_fault_of, meets, rd_fault_of}
-use Rattle.matching.specs.Compares.{same_csr, csr_entry_fault_of, csr_difference, csr_fault_of, tag_fault_of}
+use Rattle.matching.specs.Compares.{pc_fault_of, word_fault_of, trap_fault_of, next_fault_of, meets}
+use Rattle.matching.specs.Compares.{same_csr, csr_entry_fault_of, csr_difference, tag_fault_of}
 use Rattle.matching.specs.Matching.{retire_fault_of}
 use Rattle.msg_frames.specs.Pieces.{byte_in}
-use Rattle.matching.specs.Pieces.{first_other}
 use Rattle.matching.specs.Reports.{live, early, counting}
 use Rattle.matching.specs.RetireFaults.{is_stray, lower, lowest_stray, stray_fault_of, is_missing, is_torn, same_read}
 use Rattle.matching.specs.RetireFaults.{missing_fault_in, torn_fault_in, reads_missing, reads_torn, missing_fault_of}
@@ -31,7 +28,7 @@ use Rattle.matching.specs.RetireFaults.{amo_fault_of}
 use Rattle.matching.specs.RetireFaults.{rd_want_of, register_fault_of, is_in_pair, pair_fault_of, effect_fault_in}
 use Rattle.matching.specs.RetireFaults.{retire_fault_in}
 use Rattle.matching.specs.Runs.{Run, run_of, doing_at, effect_at, plan_at, bypass_at}
-use Rattle.matching.specs.Tags.{last_tag, is_younger}
+use Rattle.matching.specs.Tags.{last_tag}
 use Rattle.trace_model.proofs.Lists.{In, contained, listed}
 use Rattle.order_laws.specs.Formed.{AreAllRead, HasReads, AreReadAtOnce, HasOneRead, HasReports}
 use Rattle.order_laws.specs.Stepped.{AreBypassed, StoresBypassed, RetiresStep, ScIsPaired}

@@ -1,9 +1,9 @@
 -- What it means that a test finds no fault.
 use Rattle.std.proofs.Common.{ℕ, zero, suc, ◌+◌, ◌<◌, ◌≤◌, ◌≡◌, ◌↔◌, Bool, true, false, cond, not, ltb, leb, eqb}
-use Rattle.std.proofs.Common.{nat_eq, ◌&&◌}
-use Rattle.std.proofs.Common.{is_some, List, [], ◌∷◌, Option, Some, None, refl, sym, ap, subst, ◌∙◌, inl, inr, arith}
-use Rattle.std.proofs.lemmas.Bool.{false≢true, cases_Bool, and_parts, and_from, ltb-true, lt-ltb, ltb-false, leb-true}
-use Rattle.std.proofs.lemmas.Bool.{le-leb, leb-false, eqb-true, eq-eqb, not-false, both_ways}
+use Rattle.std.proofs.Common.{nat_eq}
+use Rattle.std.proofs.Common.{Option, Some, None, refl, sym, ap, subst, inl, inr, arith}
+use Rattle.std.proofs.lemmas.Bool.{false≢true, cases_Bool, ltb-true, lt-ltb, ltb-false, leb-true}
+use Rattle.std.proofs.lemmas.Bool.{leb-false, eqb-true, eq-eqb, not-false, both_ways}
 use Rattle.std.specs.Option.{option_or, option_eq}
 use Rattle.tandem_base.specs.FirstFault.{◌or_else◌}
 use Rattle.matching.specs.Searches.{first_below}

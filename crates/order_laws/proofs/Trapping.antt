@@ -28,7 +28,7 @@ use Rattle.matching.specs.Compares.{pc_fault_of, word_fault_of, trap_fault_of, t
 use Rattle.matching.specs.Matching.{retire_fault_of}
 use Rattle.matching.specs.Reports.{live, early}
 use Rattle.matching.specs.RetireFaults.{retire_fault_in, stray_fault_of, lowest_stray}
-use Rattle.matching.specs.Runs.{Run, run_of, done_of, doing_at, effect_at, plan_at, bypass_at, outside_of}
+use Rattle.matching.specs.Runs.{Run, run_of, doing_at, effect_at, plan_at, bypass_at, outside_of}
 use Rattle.matching.specs.Settings.{config_of}
 use Rattle.matching.specs.Tags.{last_tag}
 use Rattle.trace_model.specs.Entries.{Entry}

@@ -1,5 +1,5 @@
 -- Messages that break nothing.
-use Rattle.std.proofs.Common.{ℕ, ◌<◌, ◌≡◌, inl, inr, Bool, true, false, not, is_some, List, [], ◌∷◌, length, Option}
+use Rattle.std.proofs.Common.{ℕ, ◌≡◌, Bool, true, false, not, is_some, List, [], ◌∷◌, Option}
 use Rattle.std.proofs.Common.{Some, None}
 use Rattle.std.proofs.Common.{refl, sym, ap, subst, ◌∙◌, arith}
 use Rattle.std.proofs.lemmas.Bool.{false≢true}
@@ -18,7 +18,6 @@ use Rattle.rv_step.specs.Harts.{HartState}
 use Rattle.rv_step.specs.Steps.{Doing, trap, plain, counter, load, store, lr, sc, amo}
 use Rattle.rvwmo_model.specs.declared.instructions.Retired.{Retired}
 use Rattle.rvwmo_model.specs.declared.operations.Op.{Op}
-use Rattle.rvwmo_model.specs.declared.operations.OpKind.{OpKind}
 use Rattle.rvwmo_model.specs.declared.operations.OpKind.TheVariants as kind
 use Rattle.rvwmo_model.specs.declared.traces.Trace.{Trace}
 use Rattle.rvwmo_model.specs.Legal.{Legal}
@@ -30,7 +29,7 @@ use Rattle.growth_laws.proofs.Quiet.{quiet_insns}
 use Rattle.matching.specs.declared.reports.OpenReport.{OpenReport}
 use Rattle.matching.specs.Matching.{IsClean}
 use Rattle.matching.specs.Reports.{live, early, early_of}
-use Rattle.matching.specs.Runs.{run_of, doing_at, bypass_at}
+use Rattle.matching.specs.Runs.{run_of, doing_at}
 use Rattle.matching.specs.Settings.{config_of}
 use Rattle.matching.specs.Tags.{is_early}
 use Rattle.trace_model.specs.Entries.{Entry}

@@ -1,11 +1,11 @@
 -- What is closed precedes what comes.
 use Rattle.std.proofs.Common.{ℕ, ◌+◌, ◌<◌, ◌≤◌, ◌≡◌, ◌⊎◌, inl, inr, Bool, true, false, List, [], ◌∷◌, ◌++◌, length}
 use Rattle.std.proofs.Common.{eqb, Option, Some, None, refl, sym, ap, subst, ◌∙◌, arith}
-use Rattle.std.proofs.lemmas.Bool.{both_ways, cases_Bool, eq-eqb}
+use Rattle.std.proofs.lemmas.Bool.{eq-eqb}
 use Rattle.std.proofs.lemmas.Bool.Decides.{nat_tests}
 use Rattle.std.proofs.lemmas.List.{length-append}
 use Rattle.std.proofs.lemmas.List.Elements.{Contains-append_left}
-use Rattle.std.specs.List.{Contains, filter}
+use Rattle.std.specs.List.{filter}
 use Rattle.tandem_base.specs.declared.names.Place.{Place}
 use Rattle.tandem_base.specs.declared.names.Position.{Position}
 use Rattle.tandem_base.specs.Places.{earlier, comes_before}
@@ -13,9 +13,8 @@ use Rattle.msg_frames.specs.declared.message.Message.{Message}
 use Rattle.elf_image.specs.Images.{Loaded}
 use Rattle.rvwmo_model.specs.declared.operations.Op.{Op}
 use Rattle.rvwmo_model.specs.declared.traces.Trace.{Trace}
-use Rattle.rvwmo_model.specs.Order.{standing, stands_before, performed, precedes, everything}
+use Rattle.rvwmo_model.specs.Order.{stands_before, performed}
 use Rattle.elf_image.specs.Images.{initial_byte}
-use Rattle.rvwmo_model.specs.InForm.{IsPlaced}
 use Rattle.rvwmo_model.proofs.Membership.{nothing_in}
 use Rattle.growth_laws.specs.Growth.{Grows}
 use Rattle.growth_laws.specs.Kinds.{WellKinded}
@@ -25,16 +24,14 @@ use Rattle.growth_laws.proofs.Chains.{chain_stays}
 use Rattle.growth_laws.proofs.Growths.{grows_chain}
 use Rattle.matching.specs.declared.reports.OpenReport.{OpenReport}
 use Rattle.matching.specs.Reports.{live, early, place_of_report}
-use Rattle.matching.specs.Settings.{number_after}
 use Rattle.matching.specs.Matching.{IsClean}
-use Rattle.trace_model.specs.FirstWrites.{IsMessage}
 use Rattle.trace_model.specs.Kept.{earlier_of, earliest_place, oldest_place}
 use Rattle.trace_model.specs.LaterPlaces.{IsReported, IsOrigin}
 use Rattle.trace_model.specs.Positions.{IsPerformedAt, HasMessage, position_of}
 use Rattle.trace_model.specs.Traces.{trace_of}
 use Rattle.trace_model.proofs.CleanLists.{lists_are_well_kinded, lists_grow}
 use Rattle.trace_model.proofs.LaterPlaces.{places_of_later}
-use Rattle.trace_model.proofs.Lists.{In, contained, listed, in_left, in_right, in_filter}
+use Rattle.trace_model.proofs.Lists.{In, listed, in_left, in_right, in_filter}
 use Rattle.trace_model.proofs.Positions.{places_are_ordered, places_have_messages}
 use Rattle.order_laws.specs.Prefixes.{IsLegal, IsNotAfter, IsClosed, ClosedPrecedesLater}
 use Rattle.order_laws.proofs.Legality.{clean_before}

@@ -1,11 +1,9 @@
 -- What it means that nothing is left open at the End.
-use Rattle.std.proofs.Common.{ℕ, zero, suc, ◌+◌, ◌<◌, ◌≤◌, ◌≡◌, ◌↔◌, Bool, true, false, cond, not, eqb, ltb, ◌&&◌}
+use Rattle.std.proofs.Common.{ℕ, zero, suc, ◌<◌, ◌≤◌, ◌≡◌, ◌↔◌, Bool, true, false, cond, not, eqb, ltb, ◌&&◌}
 use Rattle.std.proofs.Common.{is_some, List, []}
 use Rattle.std.proofs.Common.{◌∷◌, length, Option, Some, None, refl, sym, ap, subst, ◌∙◌, inl, inr, arith}
 use Rattle.std.proofs.lemmas.Bool.{false≢true, cases_Bool, ltb-true, lt-ltb, eqb-true, ltb-false}
-use Rattle.std.specs.List.{Contains}
 use Rattle.std.specs.Option.{option_or, option_map_or}
-use Rattle.tandem_base.specs.FirstFault.{◌or_else◌}
 use Rattle.msg_frames.specs.declared.message.Head.{Head}
 use Rattle.msg_frames.specs.declared.message.OpenInfo.{OpenInfo}
 use Rattle.msg_frames.specs.declared.message.Body.{Body}
@@ -13,7 +11,6 @@ use Rattle.msg_frames.specs.declared.message.Body.TheVariants as body
 use Rattle.msg_frames.specs.declared.message.Message.{Message}
 use Rattle.msg_frames.specs.Frames.{Fits}
 use Rattle.elf_image.specs.Images.{Loaded}
-use Rattle.verdict_report.specs.declared.fault.Fault.{Fault}
 use Rattle.matching.specs.declared.reports.OpenReport.{OpenReport}
 use Rattle.matching.specs.declared.stores.Fate.{Fate}
 use Rattle.matching.specs.declared.stores.Stored.{Stored}
@@ -21,7 +18,7 @@ use Rattle.matching.specs.EndFaults.{is_left, first_left, is_open_store, earlies
 use Rattle.matching.specs.EndFaults.{unwritten_fault_in, unwritten_fault_of, unwritten_below, first_bypass}
 use Rattle.matching.specs.EndFaults.{unretired_fault_of}
 use Rattle.matching.specs.Fates.{is_done}
-use Rattle.matching.specs.Matching.{IsClean, stream_fault_of, body_fault_of, end_fault_of}
+use Rattle.matching.specs.Matching.{IsClean, end_fault_of}
 use Rattle.matching.specs.PartFaults.{fate_at}
 use Rattle.matching.specs.Reports.{early}
 use Rattle.matching.specs.Searches.{earliest, first_below}
@@ -29,10 +26,9 @@ use Rattle.matching.specs.Settings.{open_of, harts_of}
 use Rattle.matching.specs.Stores.{retired_stores}
 use Rattle.trace_model.proofs.Cleaned.{has_entry}
 use Rattle.trace_model.proofs.Lists.{In, contained, listed}
-use Rattle.order_laws.specs.Formed.{IsInStream}
 use Rattle.order_laws.specs.Stepped.{AreWritten}
 use Rattle.order_laws.proofs.FormedParts.{stream_is}
-use Rattle.order_laws.proofs.Tests.{both, then, none_below}
+use Rattle.order_laws.proofs.Tests.{both, none_below}
 use Rattle.order_laws.proofs.Trapping.{both_none}
 
 -- ---- a list in which none passes

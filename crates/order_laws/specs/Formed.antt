@@ -1,5 +1,5 @@
 -- When a stream is well-formed: each message fits those before it. The newest message stands first.
-use Rattle.std.specs.Prelude.{ℕ, ◌+◌, ◌%◌, ◌<◌, ◌≤◌, ◌≡◌, is_some, List, [], ◌∷◌, length, Bool, true, false, Some}
+use Rattle.std.specs.Prelude.{ℕ, ◌+◌, ◌%◌, ◌<◌, ◌≤◌, ◌≡◌, is_some, List, [], ◌∷◌, Bool, true, false, Some}
 use Rattle.std.specs.Prelude.{None}
 use Rattle.std.specs.List.{Contains}
 use Rattle.msg_frames.specs.declared.message.Head.{Head}

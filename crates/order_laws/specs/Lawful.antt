@@ -1,5 +1,5 @@
 -- Which lists of messages are lawful, and that just these are accepted. A list has the newest message first.
-use Rattle.std.specs.Prelude.{ℕ, ◌≡◌, ◌↔◌, List, [], ◌∷◌, reverse, length, All, true, false, Some, None}
+use Rattle.std.specs.Prelude.{◌≡◌, ◌↔◌, List, [], ◌∷◌, reverse, length, All, true, false, Some}
 use Rattle.msg_frames.specs.declared.message.Message.{Message}
 use Rattle.msg_frames.specs.Cut.{is_end}
 use Rattle.msg_frames.specs.Frames.{Fits}

@@ -1,6 +1,6 @@
 -- When every retirement is the step of the model, and every store that retired is written. The newest message stands
 -- first.
-use Rattle.std.specs.Prelude.{ℕ, ◌+◌, ◌<◌, ◌≡◌, is_some, List, [], ◌∷◌, length, Bool, true, false, Some, None}
+use Rattle.std.specs.Prelude.{ℕ, ◌+◌, ◌<◌, ◌≡◌, is_some, List, [], ◌∷◌, length, Bool, true, false, Some}
 use Rattle.std.specs.List.{Contains}
 use Rattle.std.specs.declared.option.Option.{Option}
 use Rattle.msg_frames.specs.declared.message.Head.{Head}
@@ -65,16 +65,16 @@ BypassSteps image before head piece true = Unit {0}
 BypassSteps image before head piece false = BringsStored image before head piece
 
 -- a message reports the step
-abbrev pub IsStep : Loaded → List Message → Head → Body → Type 0
-IsStep image before head (body.Retire retire) = RetiresStep image before head retire
-IsStep image before head (body.Insert piece) = BringsStored image before head piece
-IsStep image before head (body.Bypass piece) = BypassSteps image before head piece (is_early before head)
-IsStep image before head _ = Unit {0}
+abbrev pub ReportsStep : Loaded → List Message → Head → Body → Type 0
+ReportsStep image before head (body.Retire retire) = RetiresStep image before head retire
+ReportsStep image before head (body.Insert piece) = BringsStored image before head piece
+ReportsStep image before head (body.Bypass piece) = BypassSteps image before head piece (is_early before head)
+ReportsStep image before head _ = Unit {0}
 
 -- every retirement is the step
 abbrev pub AreSteps : Loaded → List Message → Type 0
 AreSteps image [] = Unit {0}
-AreSteps image (m ∷ before) = AreSteps image before × IsStep image before m.head m.body
+AreSteps image (m ∷ before) = AreSteps image before × ReportsStep image before m.head m.body
 
 -- ---- pairs
 

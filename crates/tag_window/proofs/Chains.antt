@@ -1,10 +1,10 @@
 -- Slots that are linked under their tags, as reports come and go.
-use Rattle.std.proofs.Common.{ℕ, zero, suc, ◌≡◌, ◌≢◌, ◌+◌, ◌<◌, ◌≤◌, ◌==◌, ◌&&◌, ◌⊎◌, inl, inr, not, Bool, true, false}
+use Rattle.std.proofs.Common.{ℕ, ◌≡◌, ◌≢◌, ◌+◌, ◌<◌, ◌≤◌, ◌==◌, ◌&&◌, inl, inr, not, Bool, true, false}
 use Rattle.std.proofs.Common.{cond, List, [], ◌∷◌, ◌++◌, length, Option, None, Some, IsSome, refl, sym, ap, ◌∙◌, subst}
 use Rattle.std.proofs.Common.{arith, if◌then◌else◌}
 use Rattle.std.proofs.lemmas.List.{append-nil, append_assoc}
 use Rattle.std.proofs.lemmas.List.Filters.{length-filter_both}
-use Rattle.std.proofs.lemmas.Bool.{cases_eq, cases_Bool, both_ways, eqb-true, eq-eqb, ne_eqb}
+use Rattle.std.proofs.lemmas.Bool.{cases_eq, both_ways, eqb-true, eq-eqb, ne_eqb}
 use Rattle.std.proofs.lemmas.Bool.Decides.{nat_tests}
 use Rattle.slab.specs.Slab.{Slab, get, slab_len}
 use Rattle.tandem_base.specs.declared.names.Position.{Position}
@@ -12,13 +12,13 @@ use Rattle.tandem_base.specs.Places.{comes_before}
 use Rattle.tag_window.specs.declared.links.Link.{Link}
 use Rattle.tag_window.specs.declared.newest.Newest.{Newest}
 use Rattle.tag_window.specs.declared.order.Arrival.{Arrival}
-use Rattle.tag_window.specs.Order.{is_at, is_live, live_of, AllBefore, Falls, AllElsewhere, StartsLive, EndsLive}
-use Rattle.tag_window.specs.Order.{with_tag}
-use Rattle.tag_window.specs.Order.{arrivals_without, IsChain, IsChained, Freed, AreKept, Rises, slot_under}
+use Rattle.tag_window.specs.Order.{is_at, is_live, live_of, AllBefore, PlacesFall, AllElsewhere, StartsLive, EndsLive}
+use Rattle.tag_window.specs.Order.{arrivals_of_tag}
+use Rattle.tag_window.specs.Order.{arrivals_without, IsTagChain, IsTagChained, Freed, AreKept, TagsRise, slot_under}
 use Rattle.tag_window.specs.Order.{AllTagsAbove}
-use Rattle.tag_window.specs.Order.{HasTag, AllTagsFrom, same_place}
-use Rattle.tag_window.proofs.Arrivals.{In, filter_on, filter_both, filter_all, filter_none, in_filter, filter_in}
-use Rattle.tag_window.proofs.Arrivals.{elsewhere_in, elsewhere_from, before_in, falls_filter, one_live, holds_of, Holds}
+use Rattle.tag_window.specs.Order.{HasTag, AllTagsFrom}
+use Rattle.tag_window.proofs.Arrivals.{In, filter_on, filter_both, filter_none, in_filter, filter_in}
+use Rattle.tag_window.proofs.Arrivals.{elsewhere_in, elsewhere_from, before_in, falls_filter, one_live, holds_of}
 use Rattle.tag_window.proofs.Arrivals.{never_itself, same_self, apart_place, before_all}
 use Rattle.tag_window.proofs.TagLists.{yes_at, no_at}
 
@@ -35,13 +35,13 @@ same_of x y o e f =
 -- ---- along a chain
 
 -- a chain is one list, as far as its slots go
-pub chain_ends : (at : ℕ → Option Link) (head : Option ℕ) (cs : List Arrival) → IsChain at head cs → head ≡ None → cs
+pub chain_ends : (at : ℕ → Option Link) (head : Option ℕ) (cs : List Arrival) → IsTagChain at head cs → head ≡ None → cs
     ≡ []
 chain_ends at head [] c e = refl
 chain_ends at head (a ∷ cs) c e = absurd (none_of a.slot head e c.1)
 
 pub chain_on : (at new : ℕ → Option Link) (head : Option ℕ) (cs : List Arrival)
-    → ((a : Arrival) → In a cs → new a.slot ≡ at a.slot) → IsChain at head cs → IsChain new head cs
+    → ((a : Arrival) → In a cs → new a.slot ≡ at a.slot) → IsTagChain at head cs → IsTagChain new head cs
 chain_on at new head [] h c = c
 chain_on at new head (a ∷ cs) h c = (
   c.0,
@@ -58,10 +58,10 @@ pub record Steps (at : ℕ → Option Link) (slot : ℕ) (link : Link) (cs : Lis
   pub is : cs ≡ first ∷ tail
   pub slot_is : first.slot ≡ slot
   pub place : link.place ≡ first.place
-  pub chain : IsChain at link.older tail
+  pub chain : IsTagChain at link.older tail
 
 pub step_of : (at : ℕ → Option Link) (head : Option ℕ) (slot : ℕ) (link : Link) (cs : List Arrival)
-    → IsChain at head cs → head ≡ Some slot → at slot ≡ Some link → Steps at slot link cs
+    → IsTagChain at head cs → head ≡ Some slot → at slot ≡ Some link → Steps at slot link cs
 step_of at head slot link [] c e there = absurd (none_of slot head c e)
 step_of at head slot link (a ∷ cs) c e there =
     let s : a.slot ≡ slot = same_of a.slot slot head c.1 e in
@@ -72,14 +72,14 @@ step_of at head slot link (a ∷ cs) c e there =
       is = refl;
       slot_is = s;
       place = subst (λ (x : Link). x.place ≡ a.place) l c.3;
-      chain = subst (λ (x : Link). IsChain at x.older cs) l c.4;
+      chain = subst (λ (x : Link). IsTagChain at x.older cs) l c.4;
     }
 
-pub chain_some : (at : ℕ → Option Link) (slot : ℕ) (cs : List Arrival) → IsChain at (Some slot) cs → 0 < length cs
+pub chain_some : (at : ℕ → Option Link) (slot : ℕ) (cs : List Arrival) → IsTagChain at (Some slot) cs → 0 < length cs
 chain_some at slot [] c = cc
 chain_some at slot (a ∷ cs) c = omega arith
 
-pub there_is : (at : ℕ → Option Link) (head : Option ℕ) (slot : ℕ) (cs : List Arrival) → IsChain at head cs
+pub there_is : (at : ℕ → Option Link) (head : Option ℕ) (slot : ℕ) (cs : List Arrival) → IsTagChain at head cs
     → head ≡ Some slot → IsSome (at slot)
 there_is at head slot [] c e = absurd (none_of slot head c e)
 there_is at head slot (a ∷ cs) c e =
@@ -89,7 +89,7 @@ there_is at head slot (a ∷ cs) c e =
 
 -- the reports of a chain are in other slots than one that came later
 pub others_elsewhere : (at : ℕ → Option Link) (slot : ℕ) (link : Link) (head : Option ℕ) (cs : List Arrival)
-    → at slot ≡ Some link → AllBefore link.place cs → IsChain at head cs → AllElsewhere slot cs
+    → at slot ≡ Some link → AllBefore link.place cs → IsTagChain at head cs → AllElsewhere slot cs
 others_elsewhere at slot link head [] there b c = tt
 others_elsewhere at slot link head (a ∷ cs) there b c = (
   (λ s. (
@@ -119,16 +119,16 @@ pub record Frees (old now : ℕ → Option Link) (here : Option ℕ) (full : Lis
   pub done : List Arrival
   pub rest : List Arrival
   pub is : full ≡ done ++ rest
-  pub chain : IsChain now here rest
-  pub falls : Falls rest
+  pub chain : IsTagChain now here rest
+  pub falls : PlacesFall rest
   pub freed : Freed old now done
   pub counts : left + length done ≡ count
 
 pub record Freeing (old now : ℕ → Option Link) (head here : Option ℕ) (count left : ℕ) : Type 0 where
-  pub rest : IsChained now here
-  pub frees : (full : List Arrival) → IsChain old head full → Falls full → Frees old now here full count left
+  pub rest : IsTagChained now here
+  pub frees : (full : List Arrival) → IsTagChain old head full → PlacesFall full → Frees old now here full count left
 
-pub freeing_begins : (at : ℕ → Option Link) (head : Option ℕ) (count : ℕ) → IsChained at head
+pub freeing_begins : (at : ℕ → Option Link) (head : Option ℕ) (count : ℕ) → IsTagChained at head
     → Freeing at at head head count count
 freeing_begins at head count c = record {
   rest = c;
@@ -145,7 +145,7 @@ freeing_begins at head count c = record {
 
 module _ (old now : ℕ → Option Link) (head here : Option ℕ) (count left : ℕ)
     (m : Freeing old now head here count left) where
-  pub freeing_ends : here ≡ None → (full : List Arrival) → IsChain old head full → Falls full
+  pub freeing_ends : here ≡ None → (full : List Arrival) → IsTagChain old head full → PlacesFall full
       → Freed old now full × (left + length full ≡ count)
   freeing_ends e full c f =
       let r = m.frees full c f in
@@ -158,11 +158,11 @@ module _ (old now : ℕ → Option Link) (head here : Option ℕ) (count left : 
   module _ (slot : ℕ) (link : Link) (e : here ≡ Some slot) (there : now slot ≡ Some link) (new : ℕ → Option Link)
       (gone : new slot ≡ None) (others : (k : ℕ) → k ≢ slot → new k ≡ now k) where
     -- the chain from the next slot
-    next : (cs : List Arrival) → IsChain now here cs → Falls cs → (s : Steps now slot link cs)
-        × IsChain new link.older s.tail × Falls s.tail
+    next : (cs : List Arrival) → IsTagChain now here cs → PlacesFall cs → (s : Steps now slot link cs)
+        × IsTagChain new link.older s.tail × PlacesFall s.tail
     next cs c f =
         let s = step_of now here slot link cs c e there in
-        let g : Falls (s.first ∷ s.tail) = subst Falls s.is f in
+        let g : PlacesFall (s.first ∷ s.tail) = subst PlacesFall s.is f in
         let b : AllBefore link.place s.tail = subst (λ (p : Position). AllBefore p s.tail) (sym s.place) g.0 in
         let apart = others_elsewhere now slot link link.older s.tail there b s.chain in (
           s,
@@ -170,7 +170,7 @@ module _ (old now : ℕ → Option Link) (head here : Option ℕ) (count left : 
           g.1,
         )
 
-    goes_on : (fewer : ℕ) → fewer + 1 ≡ left → (full : List Arrival) → IsChain old head full → Falls full
+    goes_on : (fewer : ℕ) → fewer + 1 ≡ left → (full : List Arrival) → IsTagChain old head full → PlacesFall full
         → Frees old new link.older full count fewer
     goes_on fewer one full c f =
         let r = m.frees full c f in
@@ -208,11 +208,11 @@ module _ (old now : ℕ → Option Link) (head here : Option ℕ) (count left : 
 
 -- ---- reports that were freed
 
-module _ (at new : ℕ → Option Link) (arrivals : List Arrival) (falls : Falls arrivals) (tag : ℕ)
-    (freed : Freed at new (with_tag tag (live_of at arrivals))) where
+module _ (at new : ℕ → Option Link) (arrivals : List Arrival) (falls : PlacesFall arrivals) (tag : ℕ)
+    (freed : Freed at new (arrivals_of_tag tag (live_of at arrivals))) where
   -- the others' slots stay
   pub stays_apart : (a : Arrival) → In a (live_of at arrivals) → (a.tag == tag) ≡ false → new a.slot ≡ at a.slot
-  stays_apart a i d = freed.stay a.slot (elsewhere_from a.slot (with_tag tag (live_of at arrivals)) (λ b j s. (
+  stays_apart a i d = freed.stay a.slot (elsewhere_from a.slot (arrivals_of_tag tag (live_of at arrivals)) (λ b j s. (
       let k = in_filter (λ x. x.tag == tag) (live_of at arrivals) b j in
       let same : b ≡ a = one_live at arrivals falls b a k.0 i s in
       both_ways (a.tag == tag) d (subst (λ (x : Arrival). (x.tag == tag) ≡ true) same k.1))))
@@ -231,7 +231,7 @@ module _ (at new : ℕ → Option Link) (arrivals : List Arrival) (falls : Falls
           let apart = freed.gone a.slot link n in
           let here = filter_in (is_live at) arrivals a i e in
           let mine = filter_in (λ x. x.tag == tag) (live_of at arrivals) a here h in
-          absurd (elsewhere_in a.slot (with_tag tag (live_of at arrivals)) apart a mine refl)
+          absurd (elsewhere_in a.slot (arrivals_of_tag tag (live_of at arrivals)) apart a mine refl)
       by true e false h o n =
           let here = filter_in (is_live at) arrivals a i e in
           ap (λ (x : Option Link). is_at x a.place) (stays_apart a here h) ∙ e
@@ -242,55 +242,58 @@ module _ (at new : ℕ → Option Link) (arrivals : List Arrival) (falls : Falls
       ∙ sym (filter_both (is_live at) (λ a. not (a.tag == tag)) arrivals)
 
 -- those of another tag are among those without this one
-pub tags_apart : (u tag : ℕ) (cs : List Arrival) → u ≢ tag → with_tag u (arrivals_without tag cs) ≡ with_tag u cs
+pub tags_apart : (u tag : ℕ) (cs : List Arrival) → u ≢ tag
+    → arrivals_of_tag u (arrivals_without tag cs) ≡ arrivals_of_tag u cs
 tags_apart u tag cs d =
     filter_both (λ a. not (a.tag == tag)) (λ a. a.tag == u) cs
     ∙ filter_on (λ a. not (a.tag == tag) && (a.tag == u)) (λ a. a.tag == u) cs (λ a i. grind (arith, nat_tests))
 
-pub tags_gone : (tag : ℕ) (cs : List Arrival) → with_tag tag (arrivals_without tag cs) ≡ []
+pub tags_gone : (tag : ℕ) (cs : List Arrival) → arrivals_of_tag tag (arrivals_without tag cs) ≡ []
 tags_gone tag cs =
     filter_both (λ a. not (a.tag == tag)) (λ a. a.tag == tag) cs
     ∙ filter_none (λ a. not (a.tag == tag) && (a.tag == tag)) cs (λ a i. grind (arith, nat_tests))
 
 module _ (links new : Slab Link) (arrivals : List Arrival) (newest less : List Newest) (tag slot : ℕ)
-    (kept : AreKept links arrivals newest) (was : slot_under newest tag ≡ Some slot) (rises : Rises less)
+    (kept : AreKept links arrivals newest) (was : slot_under newest tag ≡ Some slot) (rises : TagsRise less)
     (slots : (u : ℕ) → slot_under less u ≡ (if u == tag then None else slot_under newest u)) where
-  pub freed_links : IsChain (get links) (Some slot) (with_tag tag (live_of (get links) arrivals))
-  freed_links = subst (λ (o : Option ℕ). IsChain (get links) o (with_tag tag (live_of (get links) arrivals))) was
+  pub freed_links : IsTagChain (get links) (Some slot) (arrivals_of_tag tag (live_of (get links) arrivals))
+  freed_links = subst (λ (o : Option ℕ). IsTagChain (get links) o (arrivals_of_tag tag (live_of
+      (get links) arrivals))) was
       (kept.chains tag)
 
-  pub freed_falls : Falls (with_tag tag (live_of (get links) arrivals))
+  pub freed_falls : PlacesFall (arrivals_of_tag tag (live_of (get links) arrivals))
   freed_falls = falls_filter (λ a. a.tag == tag) (live_of (get links) arrivals)
       (falls_filter (is_live (get links)) arrivals kept.falls)
 
-  pub freed_chain : IsChained (get links) (Some slot)
+  pub freed_chain : IsTagChained (get links) (Some slot)
   freed_chain = record {
-    reports = with_tag tag (live_of (get links) arrivals);
+    reports = arrivals_of_tag tag (live_of (get links) arrivals);
     chain = freed_links;
     falls = freed_falls;
   }
 
-  module _ (freed : Freed (get links) (get new) (with_tag tag (live_of (get links) arrivals)))
-      (counts : slab_len new + length (with_tag tag (live_of (get links) arrivals)) ≡ slab_len links) where
+  module _ (freed : Freed (get links) (get new) (arrivals_of_tag tag (live_of (get links) arrivals)))
+      (counts : slab_len new + length (arrivals_of_tag tag (live_of (get links) arrivals)) ≡ slab_len links) where
     pub freed_live : live_of (get new) arrivals ≡ arrivals_without tag (live_of (get links) arrivals)
     freed_live = live_without (get links) (get new) arrivals kept.falls tag freed
 
-    freed_chains : (u : ℕ) → IsChain (get new) (slot_under less u) (with_tag u (live_of (get new) arrivals))
-    freed_chains u = subst (λ (cs : List Arrival). IsChain (get new) (slot_under less u) (with_tag u cs))
+    freed_chains : (u : ℕ) → IsTagChain (get new) (slot_under less u) (arrivals_of_tag u (live_of (get new) arrivals))
+    freed_chains u = subst (λ (cs : List Arrival). IsTagChain (get new) (slot_under less u) (arrivals_of_tag u cs))
         (sym freed_live)
         (elim (cases_eq u tag) [
           | inl e ↦
               let none : slot_under less u ≡ None = slots u ∙ yes_at u tag None (slot_under newest u) e in
-              let empty : with_tag u (arrivals_without tag (live_of (get links) arrivals)) ≡ [] =
-              ap (λ (x : ℕ). with_tag x (arrivals_without tag (live_of (get links) arrivals))) e
+              let empty : arrivals_of_tag u (arrivals_without tag (live_of (get links) arrivals)) ≡ [] =
+              ap (λ (x : ℕ). arrivals_of_tag x (arrivals_without tag (live_of (get links) arrivals))) e
               ∙ tags_gone tag (live_of (get links) arrivals) in
-              subst (λ (cs : List Arrival). IsChain (get new) (slot_under less u) cs) (sym empty) none
+              subst (λ (cs : List Arrival). IsTagChain (get new) (slot_under less u) cs) (sym empty) none
           | inr d ↦
               let head : slot_under less u ≡ slot_under newest u = slots u ∙ no_at u tag None (slot_under newest u) d in
               let same = tags_apart u tag (live_of (get links) arrivals) d in
-              subst (λ (cs : List Arrival). IsChain (get new) (slot_under less u) cs) (sym same)
-              (subst (λ (o : Option ℕ). IsChain (get new) o (with_tag u (live_of (get links) arrivals))) (sym head)
-              (chain_on (get links) (get new) (slot_under newest u) (with_tag u (live_of (get links) arrivals))
+              subst (λ (cs : List Arrival). IsTagChain (get new) (slot_under less u) cs) (sym same)
+              (subst (λ (o : Option ℕ). IsTagChain (get new) o (arrivals_of_tag u (live_of (get links) arrivals)))
+              (sym head)
+              (chain_on (get links) (get new) (slot_under newest u) (arrivals_of_tag u (live_of (get links) arrivals))
               (λ a i. (
               let k = in_filter (λ x. x.tag == u) (live_of (get links) arrivals) a i in
               let t : a.tag ≡ u = eqb-true a.tag u k.1 in
@@ -316,7 +319,7 @@ module _ (links new : Slab Link) (arrivals : List Arrival) (newest more : List N
     (later : AllBefore place (live_of (get links) arrivals)) (vacant : get links slot ≡ None)
     (there : get new slot ≡ Some (record { place = place; older = slot_under newest tag }))
     (others : (k : ℕ) → k ≢ slot → get new k ≡ get links k) (count : slab_len new ≡ slab_len links + 1)
-    (rises : Rises more)
+    (rises : TagsRise more)
     (slots : (u : ℕ) → slot_under more u ≡ (if u == tag then Some slot else slot_under newest u)) where
   came : Arrival
   came = record { tag = tag; slot = slot; place = place }
@@ -351,32 +354,36 @@ module _ (links new : Slab Link) (arrivals : List Arrival) (newest more : List N
       let h = holds_of (get links) a (in_filter (is_live (get links)) arrivals a i).1 in
       none_of h.link (get links slot) vacant (subst (λ (k : ℕ). get links k ≡ Some h.link) s h.there)))
 
-  kept_chain : (u : ℕ) → IsChain (get new) (slot_under newest u) (with_tag u (live_of (get links) arrivals))
-  kept_chain u = chain_on (get links) (get new) (slot_under newest u) (with_tag u (live_of (get links) arrivals))
+  kept_chain : (u : ℕ) → IsTagChain (get new) (slot_under newest u) (arrivals_of_tag u (live_of (get links) arrivals))
+  kept_chain u = chain_on (get links) (get new) (slot_under newest u) (arrivals_of_tag u (live_of (get links) arrivals))
       (λ a i. others a.slot (elsewhere_in slot (live_of (get links) arrivals) added_elsewhere a
       (in_filter (λ x. x.tag == u) (live_of (get links) arrivals) a i).0)) (kept.chains u)
 
-  added_chains : (u : ℕ) → IsChain (get new) (slot_under more u) (with_tag u (came ∷ live_of (get links) arrivals))
+  added_chains : (u : ℕ) → IsTagChain (get new) (slot_under more u) (arrivals_of_tag u (came ∷ live_of
+      (get links) arrivals))
   unfolding came
   added_chains u = elim (cases_eq u tag) [
     | inl e ↦
         let head : slot_under more u ≡ Some slot = slots u ∙ yes_at u tag (Some slot) (slot_under newest u) e in
-        let rest : IsChain (get new) (slot_under newest tag) (with_tag u (live_of (get links) arrivals)) =
-        subst (λ (x : ℕ). IsChain (get new) (slot_under newest x) (with_tag u (live_of (get links) arrivals))) e
+        let rest : IsTagChain (get new) (slot_under newest tag) (arrivals_of_tag u (live_of (get links) arrivals)) =
+        subst (λ (x : ℕ). IsTagChain (get new) (slot_under newest x) (arrivals_of_tag u (live_of
+        (get links) arrivals))) e
         (kept_chain u) in
-        let all : IsChain (get new) (slot_under more u) (came ∷ with_tag u (live_of (get links) arrivals)) =
+        let all : IsTagChain (get new) (slot_under more u) (came ∷ arrivals_of_tag u (live_of (get links) arrivals)) =
         (record { place = place; older = slot_under newest tag }, head, there, refl, rest) in
-        subst (λ (b : Bool). IsChain (get new) (slot_under more u)
-        (cond b (came ∷ with_tag u (live_of (get links) arrivals)) (with_tag u (live_of (get links) arrivals))))
+        subst (λ (b : Bool). IsTagChain (get new) (slot_under more u)
+        (cond b (came ∷ arrivals_of_tag u (live_of (get links) arrivals)) (arrivals_of_tag u (live_of
+        (get links) arrivals))))
         (sym (eq-eqb tag u (sym e))) all
     | inr d ↦
         let head : slot_under more u ≡ slot_under newest u = slots u
         ∙ no_at u tag (Some slot) (slot_under newest u) d in
-        let all : IsChain (get new) (slot_under more u) (with_tag u (live_of (get links) arrivals)) =
-        subst (λ (o : Option ℕ). IsChain (get new) o (with_tag u (live_of (get links) arrivals))) (sym head)
+        let all : IsTagChain (get new) (slot_under more u) (arrivals_of_tag u (live_of (get links) arrivals)) =
+        subst (λ (o : Option ℕ). IsTagChain (get new) o (arrivals_of_tag u (live_of (get links) arrivals))) (sym head)
         (kept_chain u) in
-        subst (λ (b : Bool). IsChain (get new) (slot_under more u)
-        (cond b (came ∷ with_tag u (live_of (get links) arrivals)) (with_tag u (live_of (get links) arrivals))))
+        subst (λ (b : Bool). IsTagChain (get new) (slot_under more u)
+        (cond b (came ∷ arrivals_of_tag u (live_of (get links) arrivals)) (arrivals_of_tag u (live_of
+        (get links) arrivals))))
         (sym (ne_eqb tag u (λ q. d (sym q)))) all
   ]
 
@@ -385,7 +392,8 @@ module _ (links new : Slab Link) (arrivals : List Arrival) (newest more : List N
   added_kept = record {
     falls = (before, kept.falls);
     rises = rises;
-    chains = λ u. subst (λ (cs : List Arrival). IsChain (get new) (slot_under more u) (with_tag u cs)) (sym added_live)
+    chains = λ u. subst (λ (cs : List Arrival). IsTagChain (get new) (slot_under more u) (arrivals_of_tag u cs))
+        (sym added_live)
         (added_chains u);
     count = omega (arith, ap length added_live, kept.count, count);
   }
@@ -418,7 +426,7 @@ pub has_head : (links : Slab Link) (arrivals : List Arrival) (newest : List Newe
     → (a : Arrival) → In a (live_of (get links) arrivals) → slot_under newest a.tag ≡ None → ⊥
 has_head links arrivals newest kept a i none =
     let mine = filter_in (λ x. x.tag == a.tag) (live_of (get links) arrivals) a i (eq-eqb a.tag a.tag refl) in
-    let empty = chain_ends (get links) (slot_under newest a.tag) (with_tag a.tag (live_of (get links) arrivals))
+    let empty = chain_ends (get links) (slot_under newest a.tag) (arrivals_of_tag a.tag (live_of (get links) arrivals))
     (kept.chains a.tag) none in
     subst (λ (cs : List Arrival). In a cs) empty mine
 
@@ -431,13 +439,14 @@ tag_in (b ∷ bs) a (inr i) = inr (tag_in bs a i)
 pub head_has : (links : Slab Link) (arrivals : List Arrival) (newest : List Newest) → AreKept links arrivals newest
     → (tag slot : ℕ) → slot_under newest tag ≡ Some slot → HasTag tag (live_of (get links) arrivals)
 head_has links arrivals newest kept tag slot e =
-    by (with_tag tag (live_of (get links) arrivals)) refl (kept.chains tag)
+    by (arrivals_of_tag tag (live_of (get links) arrivals)) refl (kept.chains tag)
   where
-    by : (cs : List Arrival) → with_tag tag (live_of (get links) arrivals) ≡ cs
-        → IsChain (get links) (slot_under newest tag) cs → HasTag tag (live_of (get links) arrivals)
+    by : (cs : List Arrival) → arrivals_of_tag tag (live_of (get links) arrivals) ≡ cs
+        → IsTagChain (get links) (slot_under newest tag) cs → HasTag tag (live_of (get links) arrivals)
     by [] h c = absurd (none_of slot (slot_under newest tag) c e)
     by (a ∷ cs) h c =
-        let i : In a (with_tag tag (live_of (get links) arrivals)) = subst (λ (xs : List Arrival). In a xs) (sym h)
+        let i : In a (arrivals_of_tag tag (live_of (get links) arrivals)) = subst (λ (xs : List Arrival). In a xs)
+        (sym h)
         (inl refl) in
         let k = in_filter (λ x. x.tag == tag) (live_of (get links) arrivals) a i in
         subst (λ (t : ℕ). HasTag t (live_of (get links) arrivals)) (eqb-true a.tag tag k.1)
@@ -451,7 +460,7 @@ tag_of tag (a ∷ cs) (inr h) =
     (r.0, inr r.1, r.2)
 
 -- no more heads than reports that are there
-pub heads_fit : (ns : List Newest) (cs : List Arrival) → Rises ns
+pub heads_fit : (ns : List Newest) (cs : List Arrival) → TagsRise ns
     → ((u s : ℕ) → slot_under ns u ≡ Some s → HasTag u cs) → length ns ≤ length cs
 heads_fit [] cs r h = omega arith
 heads_fit (n ∷ ns) cs r h =
@@ -459,7 +468,7 @@ heads_fit (n ∷ ns) cs r h =
     let mine = filter_in (λ x. x.tag == n.tag) cs first.0 first.1 (eq-eqb first.0.tag n.tag first.2) in
     let rest = heads_fit ns (arrivals_without n.tag cs) r.1 later in
     let both = length-filter_both (λ (a : Arrival). a.tag == n.tag) (λ a. not (a.tag == n.tag)) (λ a. refl) cs in
-    omega (arith, rest, both, some (with_tag n.tag cs) first.0 mine)
+    omega (arith, rest, both, some (arrivals_of_tag n.tag cs) first.0 mine)
   where
     some : (xs : List Arrival) (a : Arrival) → In a xs → 0 < length xs
     some [] a i = absurd i

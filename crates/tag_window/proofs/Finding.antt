@@ -1,5 +1,5 @@
 -- A search along linked Reads.
-use Rattle.std.proofs.Common.{ℕ, suc, ◌≡◌, ◌+◌, ◌<◌, ◌≤◌, Bool, true, false, List, [], ◌∷◌, length, get_or, set}
+use Rattle.std.proofs.Common.{ℕ, ◌≡◌, ◌+◌, ◌<◌, ◌≤◌, Bool, true, false, List, [], ◌∷◌, length, get_or, set}
 use Rattle.std.proofs.Common.{Option, None, inl, inr}
 use Rattle.std.proofs.Common.{Some, refl, sym, ap, ◌∙◌, subst, arith, if◌then◌else◌}
 use Rattle.std.proofs.lemmas.Bool.{cases_eq}
@@ -8,24 +8,24 @@ use Rattle.slab.specs.Slab.{Slab, get, slab_len}
 use Rattle.tag_window.specs.declared.links.Link.{Link}
 use Rattle.tag_window.specs.declared.order.Arrival.{Arrival}
 use Rattle.tag_window.specs.declared.reports.Read.{Read}
-use Rattle.tag_window.specs.Order.{IsChain}
+use Rattle.tag_window.specs.Order.{IsTagChain}
 use Rattle.tag_window.specs.Slots.{AllWithin, AreLinked, slot_with, no_read}
 use Rattle.msg_frames.specs.Pieces.{has}
-use Rattle.tag_window.proofs.Chains.{step_of, chain_ends, Steps}
+use Rattle.tag_window.proofs.Chains.{step_of, chain_ends}
 
 -- the search has come to `here`
 pub record Found (at : ℕ → Option Link) (here : Option ℕ) (x : ℕ) (items : List Read) (full : List Arrival) : Type 0
   where
     pub rest : List Arrival
-    pub chain : IsChain at here rest
+    pub chain : IsTagChain at here rest
     pub same : slot_with x items rest ≡ slot_with x items full
 
 pub record Finding (at : ℕ → Option Link) (head here : Option ℕ) (x : ℕ) (items : List Read) (left : ℕ) : Type 0 where
   pub reports : List Arrival
-  pub chain : IsChain at here reports
+  pub chain : IsTagChain at here reports
   pub within : AllWithin (length items) reports
   pub fits : length reports ≤ left
-  pub found : (full : List Arrival) → IsChain at head full → Found at here x items full
+  pub found : (full : List Arrival) → IsTagChain at head full → Found at here x items full
 
 pub finding_begins : (links : Slab Link) (head : Option ℕ) (x : ℕ) (items : List Read)
     → AreLinked links head (length items) → Finding (get links) head head x items (slab_len links)
@@ -39,7 +39,7 @@ finding_begins links head x items a = record {
 
 module _ (at : ℕ → Option Link) (head here : Option ℕ) (x : ℕ) (items : List Read) (left : ℕ)
     (f : Finding at head here x items left) where
-  pub finding_ends : here ≡ None → (full : List Arrival) → IsChain at head full → None ≡ slot_with x items full
+  pub finding_ends : here ≡ None → (full : List Arrival) → IsTagChain at head full → None ≡ slot_with x items full
   finding_ends e full c =
       let g = f.found full c in
       ap (slot_with x items) (sym (chain_ends at here g.rest g.chain e)) ∙ g.same
@@ -48,7 +48,7 @@ module _ (at : ℕ → Option Link) (head here : Option ℕ) (x : ℕ) (items : 
   pub none_left : left ≡ 0 → here ≡ None
   none_left z = by f.reports f.chain f.fits
     where
-      by : (cs : List Arrival) → IsChain at here cs → length cs ≤ left → here ≡ None
+      by : (cs : List Arrival) → IsTagChain at here cs → length cs ≤ left → here ≡ None
       by [] c l = c
       by (a ∷ cs) c l = absurd (omega (arith, z, l))
 
@@ -56,7 +56,7 @@ module _ (at : ℕ → Option Link) (head here : Option ℕ) (x : ℕ) (items : 
     pub slot_inside : slot < length items
     slot_inside = by f.reports f.chain f.within
       where
-        by : (cs : List Arrival) → IsChain at here cs → AllWithin (length items) cs → slot < length items
+        by : (cs : List Arrival) → IsTagChain at here cs → AllWithin (length items) cs → slot < length items
         by [] c w =
             let no_one : None ≡ Some slot = sym c ∙ e in
             cc
@@ -68,7 +68,7 @@ module _ (at : ℕ → Option Link) (head here : Option ℕ) (x : ℕ) (items : 
     pub slot_linked : (link : Link) × (at slot ≡ Some link)
     slot_linked = by f.reports f.chain
       where
-        by : (cs : List Arrival) → IsChain at here cs → (link : Link) × (at slot ≡ Some link)
+        by : (cs : List Arrival) → IsTagChain at here cs → (link : Link) × (at slot ≡ Some link)
         by [] c =
             let no_one : None ≡ Some slot = sym c ∙ e in
             cc
@@ -79,7 +79,7 @@ module _ (at : ℕ → Option Link) (head here : Option ℕ) (x : ℕ) (items : 
 
     module _ (link : Link) (there : at slot ≡ Some link) where
       pub finding_hits : has (get_or items slot no_read).piece x ≡ true → (full : List Arrival)
-          → IsChain at head full → Some slot ≡ slot_with x items full
+          → IsTagChain at head full → Some slot ≡ slot_with x items full
       finding_hits h full c =
           let g = f.found full c in
           let s = step_of at here slot link g.rest g.chain e there in

@@ -1,7 +1,7 @@
 -- What the slots of an order hold.
-use Rattle.std.proofs.Common.{ℕ, zero, suc, ◌≡◌, ◌≢◌, ◌+◌, ◌-◌, ◌<◌, ◌≤◌, ◌==◌, ◌⊎◌, inl, inr, not, nat_lt, Bool}
+use Rattle.std.proofs.Common.{ℕ, ◌≡◌, ◌+◌, ◌-◌, ◌<◌, ◌==◌, inl, inr, not, Bool}
 use Rattle.std.proofs.Common.{true, false}
-use Rattle.std.proofs.Common.{cond, List, [], ◌∷◌, ◌++◌, length, map, get_or, Option, None, Some, is_some, refl, sym}
+use Rattle.std.proofs.Common.{List, [], ◌∷◌, ◌++◌, length, map, get_or, Option, None, Some, is_some, refl, sym}
 use Rattle.std.proofs.Common.{ap}
 use Rattle.std.proofs.Common.{◌∙◌, subst, arith, if◌then◌else◌}
 use Rattle.std.specs.Option.{option_map}
@@ -9,41 +9,42 @@ use Rattle.std.proofs.lemmas.List.{append-nil}
 use Rattle.std.proofs.lemmas.List.Filters.{length-filter_both}
 use Rattle.std.proofs.lemmas.Bool.{both_ways}
 use Rattle.std.proofs.lemmas.Bool.Decides.{nat_tests}
-use Rattle.slab.specs.Slab.{Slab, get, slab_len}
+use Rattle.slab.specs.Slab.{get}
 use Rattle.tandem_base.specs.declared.names.Position.{Position}
 use Rattle.tandem_base.specs.Places.{comes_before}
 use Rattle.tandem_base.specs.Extents.{is_among}
 use Rattle.tandem_base.specs.declared.extent.Extent.{Extent}
 use Rattle.msg_frames.specs.Pieces.{has}
-use Rattle.tag_window.specs.declared.links.Link.{Link}
 use Rattle.tag_window.specs.declared.order.Arrival.{Arrival}
 use Rattle.tag_window.specs.declared.order.TagOrder.{TagOrder}
 use Rattle.tag_window.specs.declared.reports.Read.{Read}
 use Rattle.tag_window.specs.declared.reports.Early.{Early}
-use Rattle.tag_window.specs.Order.{is_live, live_of, live, with_tag, AllBefore, Falls, IsChain, slot_under, IsSound}
+use Rattle.tag_window.specs.Order.{is_live, live_reports, arrivals_of_tag, AllBefore, PlacesFall, IsTagChain}
+use Rattle.tag_window.specs.Order.{slot_under, IsTagOrder}
 use Rattle.tag_window.specs.Order.{CameAt, NoneBefore, IsOldest}
 use Rattle.tag_window.specs.Slots.{tagged, AreIn, AllWithin, AreLinked, slot_with, no_read, no_bypass, place_of_read}
-use Rattle.tag_window.specs.Slots.{place_of_bypass, IsFirstMiss, IsFirstSame, earlier_of}
-use Rattle.tag_window.specs.Windows.{Tagged, newest_of, counting, read_places, bypass_places, AllEarlier, Among}
-use Rattle.tag_window.specs.Windows.{NoneEarlier, IsEarliest, IsPartOf, IsLowestMissing}
-use Rattle.tag_window.proofs.Arrivals.{In, in_filter, falls_filter, one_place, one_way, onwards}
+use Rattle.tag_window.specs.Slots.{place_of_bypass, IsFirstMiss, IsFirstSame, earlier_position}
+use Rattle.tag_window.specs.Windows.{newest_under, read_counting, places_of_reads, places_of_bypasses}
+use Rattle.tag_window.specs.Windows.{AllEarlier, Among}
+use Rattle.tag_window.specs.Windows.{NoneEarlier, IsEarliest, IsInPart, IsLowestMissing}
+use Rattle.tag_window.proofs.Arrivals.{In, falls_filter, one_place, onwards}
 use Rattle.tag_window.proofs.Slotted.{are_in_filter, within_of, newest_none, newest_some, counting_is}
-use Rattle.tag_window.proofs.Chains.{chain_ends, step_of}
+use Rattle.tag_window.proofs.Chains.{chain_ends}
 
 -- ---- places
 
 pub read_places_are : (items : List Read) (cs : List Arrival) → AreIn place_of_read no_read items cs
-    → read_places (tagged no_read items cs) ≡ map (λ a. a.place) cs
+    → places_of_reads (tagged no_read items cs) ≡ map (λ a. a.place) cs
 read_places_are items [] h = refl
 read_places_are items (a ∷ cs) h =
-    ap (λ (p : Position). p ∷ read_places (tagged no_read items cs)) h.1
+    ap (λ (p : Position). p ∷ places_of_reads (tagged no_read items cs)) h.1
     ∙ ap (λ (ps : List Position). a.place ∷ ps) (read_places_are items cs h.2)
 
 pub bypass_places_are : (items : List Early) (cs : List Arrival) → AreIn place_of_bypass no_bypass items cs
-    → bypass_places (tagged no_bypass items cs) ≡ map (λ a. a.place) cs
+    → places_of_bypasses (tagged no_bypass items cs) ≡ map (λ a. a.place) cs
 bypass_places_are items [] h = refl
 bypass_places_are items (a ∷ cs) h =
-    ap (λ (p : Position). p ∷ bypass_places (tagged no_bypass items cs)) h.1
+    ap (λ (p : Position). p ∷ places_of_bypasses (tagged no_bypass items cs)) h.1
     ∙ ap (λ (ps : List Position). a.place ∷ ps) (bypass_places_are items cs h.2)
 
 pub before_places : (p : Position) (cs : List Arrival) → AllEarlier p (map (λ a. a.place) cs) → AllBefore p cs
@@ -90,7 +91,7 @@ none_weaker p q [] w h = tt
 none_weaker p q (x ∷ xs) w h = (w x h.0, none_weaker p q xs w h.1)
 
 pub earliest_of : (a b : Option Position) (xs ys : List Arrival) → IsOldest a xs → IsOldest b ys
-    → IsEarliest (map (λ c. c.place) xs ++ map (λ c. c.place) ys) (earlier_of a b)
+    → IsEarliest (map (λ c. c.place) xs ++ map (λ c. c.place) ys) (earlier_position a b)
 earliest_of None None xs ys h k =
     ap (λ (zs : List Arrival). map (λ c. c.place) zs ++ map (λ c. c.place) ys) h
     ∙ ap (λ (zs : List Arrival). map (λ c. c.place) zs) k
@@ -124,20 +125,20 @@ earliest_of (Some p) (Some q) xs ys h k = by (comes_before q p) refl
 pub record First (order : TagOrder) (size tag slot : ℕ) : Type 0 where
   pub first : Arrival
   pub rest : List Arrival
-  pub is : with_tag tag (live order) ≡ first ∷ rest
+  pub is : arrivals_of_tag tag (live_reports order) ≡ first ∷ rest
   pub slot_is : first.slot ≡ slot
   pub inside : slot < size
 
-module _ {T : Type 0} (place : T → Position) (none : T) (order : TagOrder) (items : List T) (s : IsSound order)
-    (h : AreIn place none items (live order)) where
-  mine_in : (tag : ℕ) → AreIn place none items (with_tag tag (live order))
-  mine_in tag = are_in_filter place none (λ a. a.tag == tag) items (live order) h
+module _ {T : Type 0} (place : T → Position) (none : T) (order : TagOrder) (items : List T) (s : IsTagOrder order)
+    (h : AreIn place none items (live_reports order)) where
+  mine_in : (tag : ℕ) → AreIn place none items (arrivals_of_tag tag (live_reports order))
+  mine_in tag = are_in_filter place none (λ a. a.tag == tag) items (live_reports order) h
 
   pub first_of : (tag slot : ℕ) → slot_under order.newest.items tag ≡ Some slot → First order (length items) tag slot
-  first_of tag slot e = by (with_tag tag (live order)) refl (s.kept.chains tag) (mine_in tag)
+  first_of tag slot e = by (arrivals_of_tag tag (live_reports order)) refl (s.kept.chains tag) (mine_in tag)
     where
-      by : (cs : List Arrival) → with_tag tag (live order) ≡ cs
-          → IsChain (get order.links) (slot_under order.newest.items tag) cs → AreIn place none items cs
+      by : (cs : List Arrival) → arrivals_of_tag tag (live_reports order) ≡ cs
+          → IsTagChain (get order.links) (slot_under order.newest.items tag) cs → AreIn place none items cs
           → First order (length items) tag slot
       by [] q c i =
           let no_one : None ≡ Some slot = sym c ∙ e in
@@ -154,35 +155,39 @@ module _ {T : Type 0} (place : T → Position) (none : T) (order : TagOrder) (it
           }
 
   pub newest_found : (tag slot : ℕ) → slot_under order.newest.items tag ≡ Some slot
-      → Some (get_or items slot none) ≡ newest_of tag (tagged none items (live order))
+      → Some (get_or items slot none) ≡ newest_under tag (tagged none items (live_reports order))
   newest_found tag slot e =
       let f = first_of tag slot e in
-      sym (newest_some place none tag items (live order) f.first f.rest f.is
+      sym (newest_some place none tag items (live_reports order) f.first f.rest f.is
       ∙ ap (λ (k : ℕ). Some (get_or items k none)) f.slot_is)
 
   pub newest_missing : (tag : ℕ) → slot_under order.newest.items tag ≡ None
-      → None ≡ newest_of tag (tagged none items (live order))
+      → None ≡ newest_under tag (tagged none items (live_reports order))
   newest_missing tag e =
-      let empty = chain_ends (get order.links) (slot_under order.newest.items tag) (with_tag tag (live order))
+      let empty = chain_ends (get order.links) (slot_under order.newest.items tag) (arrivals_of_tag tag
+      (live_reports order))
       (s.kept.chains tag) e in
-      sym (newest_none place none tag items (live order) empty)
+      sym (newest_none place none tag items (live_reports order) empty)
 
   pub linked : (tag : ℕ) (head : Option ℕ) → head ≡ slot_under order.newest.items tag
       → AreLinked order.links head (length items)
   linked tag head e =
-      let both = length-filter_both (λ (a : Arrival). a.tag == tag) (λ a. not (a.tag == tag)) (λ a. refl) (live order)
+      let both = length-filter_both (λ (a : Arrival). a.tag == tag) (λ a. not (a.tag == tag)) (λ a. refl)
+      (live_reports order)
       in
       record {
-        reports = with_tag tag (live order);
-        chain = subst (λ (o : Option ℕ). IsChain (get order.links) o (with_tag tag (live order))) (sym e)
+        reports = arrivals_of_tag tag (live_reports order);
+        chain = subst (λ (o : Option ℕ). IsTagChain (get order.links) o (arrivals_of_tag tag
+            (live_reports order))) (sym e)
             (s.kept.chains tag);
-        within = within_of place none items (with_tag tag (live order)) (mine_in tag);
+        within = within_of place none items (arrivals_of_tag tag (live_reports order)) (mine_in tag);
         fits = omega (arith, both, s.kept.count);
       }
 
   pub chain_from : (tag : ℕ) (head : Option ℕ) → head ≡ slot_under order.newest.items tag
-      → IsChain (get order.links) head (with_tag tag (live order))
-  chain_from tag head e = subst (λ (o : Option ℕ). IsChain (get order.links) o (with_tag tag (live order))) (sym e)
+      → IsTagChain (get order.links) head (arrivals_of_tag tag (live_reports order))
+  chain_from tag head e = subst (λ (o : Option ℕ). IsTagChain (get order.links) o (arrivals_of_tag tag
+      (live_reports order))) (sym e)
       (s.kept.chains tag)
 
 -- ---- the Reads that count
@@ -227,45 +232,50 @@ inside_is : (extent : Extent) (at k : ℕ) → k < extent.len → at ≡ extent.
     ≡ true
 inside_is extent at k l e = grind (arith, nat_tests)
 
-module _ (order : TagOrder) (items : List Read) (s : IsSound order) (h : AreIn place_of_read no_read items (live order))
+module _ (order : TagOrder) (items : List Read) (s : IsTagOrder order) (h : AreIn place_of_read no_read items
+    (live_reports order))
     (tag : ℕ) where
   mine : List Arrival
-  mine = with_tag tag (live order)
+  mine = arrivals_of_tag tag (live_reports order)
 
-  mine_are : AreIn place_of_read no_read items (with_tag tag (live order))
-  mine_are = are_in_filter place_of_read no_read (λ a. a.tag == tag) items (live order) h
+  mine_are : AreIn place_of_read no_read items (arrivals_of_tag tag (live_reports order))
+  mine_are = are_in_filter place_of_read no_read (λ a. a.tag == tag) items (live_reports order) h
 
-  mine_fall : Falls (with_tag tag (live order))
-  mine_fall = falls_filter (λ a. a.tag == tag) (live order)
+  mine_fall : PlacesFall (arrivals_of_tag tag (live_reports order))
+  mine_fall = falls_filter (λ a. a.tag == tag) (live_reports order)
       (falls_filter (is_live (get order.links)) order.arrivals.items s.kept.falls)
 
-  pub found_inside : (x slot : ℕ) → Some slot ≡ slot_with x items (with_tag tag (live order)) → slot < length items
-  found_inside x slot e = slot_inside x (length items) items (with_tag tag (live order)) slot
-      (within_of place_of_read no_read items (with_tag tag (live order)) mine_are) e
+  pub found_inside : (x slot : ℕ) → Some slot ≡ slot_with x items (arrivals_of_tag tag (live_reports order))
+      → slot < length items
+  found_inside x slot e = slot_inside x (length items) items (arrivals_of_tag tag (live_reports order)) slot
+      (within_of place_of_read no_read items (arrivals_of_tag tag (live_reports order)) mine_are) e
 
-  pub counts_by : (x : ℕ) (o : Option ℕ) → o ≡ slot_with x items (with_tag tag (live order))
-      → option_map (λ k. get_or items k no_read) o ≡ counting tag x (tagged no_read items (live order))
+  pub counts_by : (x : ℕ) (o : Option ℕ) → o ≡ slot_with x items (arrivals_of_tag tag (live_reports order))
+      → option_map (λ k. get_or items k no_read) o ≡ read_counting tag x (tagged no_read items (live_reports order))
   counts_by x o e =
-      ap (option_map (λ k. get_or items k no_read)) e ∙ sym (counting_is tag x items (live order))
+      ap (option_map (λ k. get_or items k no_read)) e ∙ sym (counting_is tag x items (live_reports order))
 
   -- two slots that were found hold two Reads
-  one_read : (x y k l : ℕ) → Some k ≡ slot_with x items (with_tag tag (live order))
-      → Some l ≡ slot_with y items (with_tag tag (live order)) → get_or items k no_read ≡ get_or items l no_read → k ≡ l
+  one_read : (x y k l : ℕ) → Some k ≡ slot_with x items (arrivals_of_tag tag (live_reports order))
+      → Some l ≡ slot_with y items (arrivals_of_tag tag (live_reports order))
+      → get_or items k no_read ≡ get_or items l no_read → k ≡ l
   one_read x y k l e f q =
-      let a = in_slot x items (with_tag tag (live order)) k e in
-      let b = in_slot y items (with_tag tag (live order)) l f in
+      let a = in_slot x items (arrivals_of_tag tag (live_reports order)) k e in
+      let b = in_slot y items (arrivals_of_tag tag (live_reports order)) l f in
       let p : place_of_read (get_or items k no_read) ≡ a.0.place =
       subst (λ (n : ℕ). place_of_read (get_or items n no_read) ≡ a.0.place) a.2
-      (place_in items (with_tag tag (live order)) mine_are a.0 a.1) in
+      (place_in items (arrivals_of_tag tag (live_reports order)) mine_are a.0 a.1) in
       let r : place_of_read (get_or items l no_read) ≡ b.0.place =
       subst (λ (n : ℕ). place_of_read (get_or items n no_read) ≡ b.0.place) b.2
-      (place_in items (with_tag tag (live order)) mine_are b.0 b.1) in
-      let one = one_place (with_tag tag (live order)) mine_fall a.0 b.0 a.1 b.1 (sym p ∙ ap place_of_read q ∙ r) in
+      (place_in items (arrivals_of_tag tag (live_reports order)) mine_are b.0 b.1) in
+      let one = one_place (arrivals_of_tag tag (live_reports order)) mine_fall a.0 b.0 a.1 b.1 (sym p
+      ∙ ap place_of_read q ∙ r) in
       sym a.2 ∙ ap (λ (c : Arrival). c.slot) one ∙ b.2
 
   pub part_of : (addr len k j : ℕ) (slots : List ℕ)
-      → ((i : ℕ) → i < len → Some (get_or slots i 0) ≡ slot_with (addr + i) items (with_tag tag (live order)))
-      → k < len → IsFirstSame slots k j → IsPartOf tag addr (tagged no_read items (live order)) k j
+      → ((i : ℕ) → i < len → Some (get_or slots i 0) ≡ slot_with (addr + i) items (arrivals_of_tag tag
+      (live_reports order)))
+      → k < len → IsFirstSame slots k j → IsInPart tag addr (tagged no_read items (live_reports order)) k j
   part_of addr len k j slots found l f =
       let here = found k l in
       let there = found j (omega (arith, l, f.upto)) in
@@ -283,18 +293,20 @@ module _ (order : TagOrder) (items : List Read) (s : IsSound order) (h : AreIn p
             f.lowest i m (one_read (addr + i) (addr + k) (get_or slots i 0) (get_or slots k 0) other here same));
       }
 
-  pub lowest_missing : (head : Option ℕ) → IsChain (get order.links) head (with_tag tag (live order))
+  pub lowest_missing : (head : Option ℕ) → IsTagChain (get order.links) head (arrivals_of_tag tag (live_reports order))
       → (extent : Extent)
       → (at : ℕ) → IsFirstMiss order.links head items extent at
-      → IsLowestMissing tag extent (tagged no_read items (live order)) at
+      → IsLowestMissing tag extent (tagged no_read items (live_reports order)) at
   lowest_missing head chain extent at f = record {
     inside = inside_is extent at f.k f.inside f.is;
-    missing = sym (counts_by at None (f.misses (with_tag tag (live order)) chain));
+    missing = sym (counts_by at None (f.misses (arrivals_of_tag tag (live_reports order)) chain));
     lowest = λ x l m. (
         let i = f.finds (x - extent.addr) (omega (arith, l, m, f.is)) in
-        let here : Some i.0 ≡ slot_with (extent.addr + (x - extent.addr)) items (with_tag tag (live order)) =
-        i.1 (with_tag tag (live order)) chain in
-        let there : Some i.0 ≡ slot_with x items (with_tag tag (live order)) =
-        subst (λ (n : ℕ). Some i.0 ≡ slot_with n items (with_tag tag (live order))) (omega (arith, l)) here in
+        let here : Some i.0 ≡ slot_with (extent.addr + (x - extent.addr)) items (arrivals_of_tag tag
+        (live_reports order)) =
+        i.1 (arrivals_of_tag tag (live_reports order)) chain in
+        let there : Some i.0 ≡ slot_with x items (arrivals_of_tag tag (live_reports order)) =
+        subst (λ (n : ℕ). Some i.0 ≡ slot_with n items (arrivals_of_tag tag (live_reports order))) (omega
+        (arith, l)) here in
         ap is_some (sym (counts_by x (Some i.0) there)));
   }

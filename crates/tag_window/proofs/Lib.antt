@@ -1,5 +1,7 @@
 pub mod Arrivals
 pub mod Chains
+pub mod Dropped
+pub mod Earlies
 pub mod Finding
 pub mod Held
 pub mod Later

@@ -1,25 +1,24 @@
 -- An order of reports, as some of them are dropped.
-use Rattle.std.proofs.Common.{ℕ, zero, suc, ◌≡◌, ◌≢◌, ◌+◌, ◌<◌, ◌≤◌, ◌==◌, ◌&&◌, inl, inr, not, nat_lt, Bool, true}
+use Rattle.std.proofs.Common.{ℕ, zero, suc, ◌≡◌, ◌+◌, ◌<◌, ◌≤◌, ◌==◌, ◌&&◌, inl, inr, not, nat_lt, Bool, true}
 use Rattle.std.proofs.Common.{false}
 use Rattle.std.proofs.Common.{cond, List, [], ◌∷◌, ◌++◌, length, get_or, Option, None, Some, refl, sym, ap, ◌∙◌, subst}
 use Rattle.std.proofs.Common.{arith, if◌then◌else◌}
-use Rattle.std.specs.List.{filter}
 use Rattle.std.specs.Option.{IfSome, option_to_list}
 use Rattle.std.specs.VecDeque.{deque_capacity}
 use Rattle.std.proofs.lemmas.List.{append-nil}
-use Rattle.std.proofs.lemmas.Bool.{cases_eq, eqb-true, ne_eqb}
+use Rattle.std.proofs.lemmas.Bool.{cases_eq, ne_eqb}
 use Rattle.std.proofs.lemmas.Bool.Decides.{nat_tests}
 use Rattle.slab.specs.Slab.{Slab, get, slab_len}
 use Rattle.tag_window.specs.declared.links.Link.{Link}
 use Rattle.tag_window.specs.declared.newest.Newest.{Newest}
 use Rattle.tag_window.specs.declared.order.Arrival.{Arrival}
 use Rattle.tag_window.specs.declared.order.TagOrder.{TagOrder}
-use Rattle.tag_window.specs.Order.{is_live, live_of, live, Falls, StartsLive, EndsLive, with_tag, arrivals_without}
-use Rattle.tag_window.specs.Order.{arrivals_above, arrivals_below, Freed, Rises, slot_under, AreKept, IsSound}
-use Rattle.tag_window.specs.Order.{IsChain, IsLowestTag}
+use Rattle.tag_window.specs.Order.{is_live, live_of, live_reports, PlacesFall, StartsLive, EndsLive, arrivals_of_tag}
+use Rattle.tag_window.specs.Order.{arrivals_without}
+use Rattle.tag_window.specs.Order.{arrivals_above, arrivals_below, Freed, TagsRise, slot_under, AreKept, IsTagOrder}
+use Rattle.tag_window.specs.Order.{IsTagChain}
 use Rattle.tag_window.specs.Order.{HasTag, AllTagsFrom}
 use Rattle.tag_window.proofs.Arrivals.{In, filter_on, filter_both, filter_all, in_filter, falls_filter, falls_front}
-use Rattle.tag_window.proofs.Arrivals.{last_of}
 use Rattle.tag_window.proofs.Chains.{freed_kept, freed_live, has_head, head_has, tags_from}
 use Rattle.tag_window.proofs.TagLists.{all_higher, under_empty, yes_at}
 
@@ -41,10 +40,11 @@ module _ (at : ℕ → Option Link) where
       ∙ sym (ap (λ (t : Bool). cond t (b ∷ live_of at bs) (live_of at bs))
       (subst (λ (y : Arrival). is_live at y ≡ false) q g))
 
-  pub front_gone_falls : (xs ys : List Arrival) (o : Option Arrival) → xs ≡ option_to_list o ++ ys → Falls xs → Falls ys
-  front_gone_falls xs ys None e f = subst Falls e f
+  pub front_gone_falls : (xs ys : List Arrival) (o : Option Arrival) → xs ≡ option_to_list o ++ ys
+      → PlacesFall xs → PlacesFall ys
+  front_gone_falls xs ys None e f = subst PlacesFall e f
   front_gone_falls xs ys (Some a) e f =
-      let g : Falls (a ∷ ys) = subst Falls e f in
+      let g : PlacesFall (a ∷ ys) = subst PlacesFall e f in
       g.1
 
   without_last : (ys : List Arrival) (a : Arrival) → is_live at a ≡ false → live_of at (ys ++ a ∷ []) ≡ live_of at ys
@@ -59,8 +59,9 @@ module _ (at : ℕ → Option Link) where
       let same : x ≡ a = q ∙ same_get xs m x a l ∙ sym h in
       sym (ap (live_of at) e ∙ without_last ys a (subst (λ (y : Arrival). is_live at y ≡ false) same g))
 
-  pub back_gone_falls : (xs ys : List Arrival) (o : Option Arrival) → xs ≡ ys ++ option_to_list o → Falls xs → Falls ys
-  back_gone_falls xs ys o e f = falls_front ys (option_to_list o) (subst Falls e f)
+  pub back_gone_falls : (xs ys : List Arrival) (o : Option Arrival) → xs ≡ ys ++ option_to_list o → PlacesFall xs
+      → PlacesFall ys
+  back_gone_falls xs ys o e f = falls_front ys (option_to_list o) (subst PlacesFall e f)
 
   starts_front : (ys zs : List Arrival) → StartsLive at (ys ++ zs) → StartsLive at ys
   starts_front [] zs s = tt
@@ -127,24 +128,25 @@ pub swept_kept : (links : Slab Link) (arrivals : List Arrival) (newest : List Ne
 swept_kept links arrivals newest k = record {
   falls = falls_filter (is_live (get links)) arrivals k.falls;
   rises = k.rises;
-  chains = subst (λ (xs : List Arrival). (tag : ℕ) → IsChain (get links) (slot_under newest tag) (with_tag tag xs))
+  chains = subst (λ (xs : List Arrival). (tag : ℕ)
+      → IsTagChain (get links) (slot_under newest tag) (arrivals_of_tag tag xs))
       (sym (live_twice (get links) arrivals)) k.chains;
   count = ap length (live_twice (get links) arrivals) ∙ k.count;
 }
 
 -- an order whose arrivals were swept
-pub swept_sound : (old new : TagOrder) → IsSound old → new.arrivals.items ≡ live old
+pub swept_sound : (old new : TagOrder) → IsTagOrder old → new.arrivals.items ≡ live_reports old
     → deque_capacity new.arrivals ≡ deque_capacity old.arrivals → new.links ≡ old.links → new.newest ≡ old.newest
-    → new.capacity ≡ old.capacity → IsSound new × (live new ≡ live old)
+    → new.capacity ≡ old.capacity → IsTagOrder new × (live_reports new ≡ live_reports old)
 swept_sound old new s e c l n k =
     let at = get old.links in
-    let same : live_of (get new.links) new.arrivals.items ≡ live old =
+    let same : live_of (get new.links) new.arrivals.items ≡ live_reports old =
     ap (λ (x : Slab Link). live_of (get x) new.arrivals.items) l ∙ ap (live_of at) e
     ∙ live_twice at old.arrivals.items in
     let kept : AreKept new.links new.arrivals.items new.newest.items =
     subst (λ (x : Slab Link). AreKept x new.arrivals.items new.newest.items) (sym l)
     (subst (λ (xs : List Arrival). AreKept old.links xs new.newest.items) (sym e)
-    (subst (λ (xs : List Newest). AreKept old.links (live old) xs) (sym (ap (λ q. q.items) n))
+    (subst (λ (xs : List Newest). AreKept old.links (live_reports old) xs) (sym (ap (λ q. q.items) n))
     (swept_kept old.links old.arrivals.items old.newest.items s.kept))) in (
       record {
         kept = kept;
@@ -164,13 +166,13 @@ swept_sound old new s e c l n k =
 -- some tags were dropped, of which the test keeps no report
 pub record Dropping (keeps : List Arrival → List Arrival) (old now : TagOrder) : Type 0 where
   pub kept : AreKept now.links now.arrivals.items now.newest.items
-  pub same : keeps (live now) ≡ keeps (live old)
+  pub same : keeps (live_reports now) ≡ keeps (live_reports old)
   pub links : now.links.capacity ≡ old.links.capacity
   pub arrivals : deque_capacity now.arrivals ≡ deque_capacity old.arrivals
   pub newest : deque_capacity now.newest ≡ deque_capacity old.newest
   pub capacity : now.capacity ≡ old.capacity
 
-pub dropping_begins : (keeps : List Arrival → List Arrival) (order : TagOrder) → IsSound order
+pub dropping_begins : (keeps : List Arrival → List Arrival) (order : TagOrder) → IsTagOrder order
     → Dropping keeps order order
 dropping_begins keeps order s = record {
   kept = s.kept;
@@ -233,20 +235,21 @@ none_of_tag links arrivals newest tag k none =
     ])
 
 -- an order that was trimmed
-pub trimmed : (old now new : TagOrder) → IsSound old → AreKept now.links now.arrivals.items now.newest.items
+pub trimmed : (old now new : TagOrder) → IsTagOrder old → AreKept now.links now.arrivals.items now.newest.items
     → now.links.capacity ≡ old.links.capacity → deque_capacity now.arrivals ≡ deque_capacity old.arrivals
     → deque_capacity now.newest ≡ deque_capacity old.newest → now.capacity ≡ old.capacity
-    → live new ≡ live now → Falls new.arrivals.items → StartsLive (get new.links) new.arrivals.items
+    → live_reports new ≡ live_reports now → PlacesFall new.arrivals.items
+    → StartsLive (get new.links) new.arrivals.items
     → EndsLive (get new.links) new.arrivals.items → deque_capacity new.arrivals ≡ deque_capacity now.arrivals
-    → new.links ≡ now.links → new.newest ≡ now.newest → new.capacity ≡ now.capacity → IsSound new
+    → new.links ≡ now.links → new.newest ≡ now.newest → new.capacity ≡ now.capacity → IsTagOrder new
 trimmed old now new s k lc ac nc cc' e f st en a l n c = record {
   kept = record {
     falls = f;
-    rises = subst (λ q. Rises q.items) (sym n) k.rises;
-    chains = subst (λ (xs : List Arrival). (tag : ℕ) → IsChain (get new.links) (slot_under new.newest.items tag)
-        (with_tag tag xs)) (sym e) (subst (λ q. (tag : ℕ) → IsChain (get new.links) (slot_under q.items tag)
-        (with_tag tag (live now))) (sym n) (subst (λ (x : Slab Link). (tag : ℕ) → IsChain (get x)
-        (slot_under now.newest.items tag) (with_tag tag (live now))) (sym l) k.chains));
+    rises = subst (λ q. TagsRise q.items) (sym n) k.rises;
+    chains = subst (λ (xs : List Arrival). (tag : ℕ) → IsTagChain (get new.links) (slot_under new.newest.items tag)
+        (arrivals_of_tag tag xs)) (sym e) (subst (λ q. (tag : ℕ) → IsTagChain (get new.links) (slot_under q.items tag)
+        (arrivals_of_tag tag (live_reports now))) (sym n) (subst (λ (x : Slab Link). (tag : ℕ) → IsTagChain (get x)
+        (slot_under now.newest.items tag) (arrivals_of_tag tag (live_reports now))) (sym l) k.chains));
     count = ap length e ∙ k.count ∙ ap slab_len (sym l);
   };
   starts = st;
@@ -258,11 +261,11 @@ trimmed old now new s k lc ac nc cc' e f st en a l n c = record {
 
 -- one more tag
 pub dropping_goes : (keeps : List Arrival → List Arrival) (old now next : TagOrder) (tag slot : ℕ)
-    → Dropping keeps old now → slot_under now.newest.items tag ≡ Some slot → Rises next.newest.items
+    → Dropping keeps old now → slot_under now.newest.items tag ≡ Some slot → TagsRise next.newest.items
     → ((u : ℕ) → slot_under next.newest.items u ≡ (if u == tag then None else slot_under now.newest.items u))
-    → Freed (get now.links) (get next.links) (with_tag tag (live now))
-    → slab_len next.links + length (with_tag tag (live now)) ≡ slab_len now.links
-    → keeps (arrivals_without tag (live now)) ≡ keeps (live now) → next.arrivals ≡ now.arrivals
+    → Freed (get now.links) (get next.links) (arrivals_of_tag tag (live_reports now))
+    → slab_len next.links + length (arrivals_of_tag tag (live_reports now)) ≡ slab_len now.links
+    → keeps (arrivals_without tag (live_reports now)) ≡ keeps (live_reports now) → next.arrivals ≡ now.arrivals
     → next.links.capacity ≡ now.links.capacity → deque_capacity next.newest ≡ deque_capacity now.newest
     → next.capacity ≡ now.capacity → Dropping keeps old next
 dropping_goes keeps old now next tag slot d was rises slots freed counts same a l n c =
@@ -281,24 +284,24 @@ dropping_goes keeps old now next tag slot d was rises slots freed counts same a 
 
 -- ---- the lowest tag
 
-module _ (order : TagOrder) (s : IsSound order) where
+module _ (order : TagOrder) (s : IsTagOrder order) where
   pub lowest_from : (x : Newest) (bound : ℕ) → 0 < length order.newest.items → x ≡ get_or order.newest.items 0 x
-      → bound ≤ x.tag → AllTagsFrom bound (live order)
-  lowest_from x bound l e b = tags_from bound (live order) (λ a i. by a i (nat_lt a.tag bound) refl)
+      → bound ≤ x.tag → AllTagsFrom bound (live_reports order)
+  lowest_from x bound l e b = tags_from bound (live_reports order) (λ a i. by a i (nat_lt a.tag bound) refl)
     where
-      by : (a : Arrival) → In a (live order) → (t : Bool) → nat_lt a.tag bound ≡ t → bound ≤ a.tag
+      by : (a : Arrival) → In a (live_reports order) → (t : Bool) → nat_lt a.tag bound ≡ t → bound ≤ a.tag
       by a i false q = grind (arith, nat_tests)
       by a i true q =
           let low : a.tag < bound = grind (arith, nat_tests) in
           absurd (has_head order.links order.arrivals.items order.newest.items s.kept a i
           (all_higher order.newest.items a.tag x s.kept.rises l e (omega (arith, low, b)) a.tag (omega arith)))
 
-  pub none_from : (bound : ℕ) → length order.newest.items ≡ 0 → AllTagsFrom bound (live order)
-  none_from bound e = tags_from bound (live order) (λ a i. absurd (has_head order.links order.arrivals.items
+  pub none_from : (bound : ℕ) → length order.newest.items ≡ 0 → AllTagsFrom bound (live_reports order)
+  none_from bound e = tags_from bound (live_reports order) (λ a i. absurd (has_head order.links order.arrivals.items
       order.newest.items s.kept a i (under_empty order.newest.items a.tag e)))
 
   pub first_has : (x : Newest) → 0 < length order.newest.items → x ≡ get_or order.newest.items 0 x
-      → HasTag x.tag (live order)
+      → HasTag x.tag (live_reports order)
   first_has x l e = head_has order.links order.arrivals.items order.newest.items s.kept x.tag x.slot
       (by order.newest.items l e)
     where

@@ -1,20 +1,17 @@
 -- The reports in slots, as the slots' reports come and go.
-use Rattle.std.proofs.Common.{ℕ, zero, suc, ◌≡◌, ◌≢◌, ◌+◌, ◌<◌, ◌≤◌, ◌==◌, ◌&&◌, ◌⊎◌, inl, inr, not, nat_lt, Bool, true}
-use Rattle.std.proofs.Common.{false, cond, List, [], ◌∷◌, ◌++◌, length, map, get_or, Option, None, Some, refl, sym, ap}
-use Rattle.std.proofs.Common.{◌∙◌, subst, arith, if◌then◌else◌}
+use Rattle.std.proofs.Common.{ℕ, zero, suc, ◌≡◌, ◌≢◌, ◌<◌, ◌≤◌, ◌==◌, ◌&&◌, inl, inr, Bool, true}
+use Rattle.std.proofs.Common.{false, cond, List, [], ◌∷◌, length, get_or, Option, None, Some, refl, sym, ap}
+use Rattle.std.proofs.Common.{◌∙◌, arith, if◌then◌else◌}
 use Rattle.std.specs.List.{filter}
 use Rattle.std.specs.Option.{option_map}
-use Rattle.std.proofs.lemmas.Bool.{cases_eq, cases_Bool, both_ways, eqb-true, eq-eqb, ne_eqb}
 use Rattle.tandem_base.specs.declared.names.Position.{Position}
-use Rattle.tandem_base.specs.Places.{comes_before}
-use Rattle.tag_window.specs.declared.links.Link.{Link}
 use Rattle.tag_window.specs.declared.order.Arrival.{Arrival}
 use Rattle.tag_window.specs.declared.reports.Read.{Read}
-use Rattle.tag_window.specs.Order.{AllElsewhere, AllBefore, HasTag, AllTagsFrom, IsLowestTag, IsChain, with_tag}
-use Rattle.tag_window.specs.Slots.{tagged, AreIn, no_read, slot_with, AllWithin, place_of_read}
-use Rattle.tag_window.specs.Windows.{Tagged, Has, AllFrom, IsLowest, newest_of, counting}
+use Rattle.tag_window.specs.Order.{AllElsewhere, HasTag, AllTagsFrom, IsLowestTag}
+use Rattle.tag_window.specs.Order.{arrivals_of_tag}
+use Rattle.tag_window.specs.Slots.{tagged, AreIn, no_read, slot_with, AllWithin}
+use Rattle.tag_window.specs.Windows.{Tagged, Has, AllFrom, IsLowestGiven, newest_under, read_counting}
 use Rattle.msg_frames.specs.Pieces.{has}
-use Rattle.tag_window.proofs.Arrivals.{In}
 
 module _ {T : Type 0} (place : T → Position) (none : T) where
   -- ---- the same reports by a test of their tags
@@ -89,29 +86,30 @@ module _ {T : Type 0} (place : T → Position) (none : T) where
   from_tagged tag items (a ∷ cs) h = (h.0, from_tagged tag items cs h.1)
 
   pub lowest_tagged : (bound : ℕ) (o : Option ℕ) (items : List T) (cs : List Arrival) → IsLowestTag bound o cs
-      → IsLowest bound o (tagged none items cs)
+      → IsLowestGiven bound o (tagged none items cs)
   lowest_tagged bound None items cs h = from_tagged bound items cs h
   lowest_tagged bound (Some tag) items cs h = (h.0, has_tagged tag items cs h.1, from_tagged tag items cs h.2)
 
-  pub newest_none : (tag : ℕ) (items : List T) (cs : List Arrival) → with_tag tag cs ≡ []
-      → newest_of tag (tagged none items cs) ≡ None
+  pub newest_none : (tag : ℕ) (items : List T) (cs : List Arrival) → arrivals_of_tag tag cs ≡ []
+      → newest_under tag (tagged none items cs) ≡ None
   newest_none tag items [] e = refl
   newest_none tag items (a ∷ cs) e = by (a.tag == tag) e (λ h. newest_none tag items cs h)
     where
-      by : (b : Bool) → cond b (a ∷ with_tag tag cs) (with_tag tag cs) ≡ []
-          → (with_tag tag cs ≡ [] → newest_of tag (tagged none items cs) ≡ None)
-          → (if b then Some (get_or items a.slot none) else newest_of tag (tagged none items cs)) ≡ None
+      by : (b : Bool) → cond b (a ∷ arrivals_of_tag tag cs) (arrivals_of_tag tag cs) ≡ []
+          → (arrivals_of_tag tag cs ≡ [] → newest_under tag (tagged none items cs) ≡ None)
+          → (if b then Some (get_or items a.slot none) else newest_under tag (tagged none items cs)) ≡ None
       by true h rest = cc
       by false h rest = rest h
 
   pub newest_some : (tag : ℕ) (items : List T) (cs : List Arrival) (b : Arrival) (bs : List Arrival)
-      → with_tag tag cs ≡ b ∷ bs → newest_of tag (tagged none items cs) ≡ Some (get_or items b.slot none)
+      → arrivals_of_tag tag cs ≡ b ∷ bs → newest_under tag (tagged none items cs) ≡ Some (get_or items b.slot none)
   newest_some tag items [] b bs e = cc
   newest_some tag items (a ∷ cs) b bs e = by (a.tag == tag) e (λ h. newest_some tag items cs b bs h)
     where
-      by : (t : Bool) → cond t (a ∷ with_tag tag cs) (with_tag tag cs) ≡ b ∷ bs
-          → (with_tag tag cs ≡ b ∷ bs → newest_of tag (tagged none items cs) ≡ Some (get_or items b.slot none))
-          → (if t then Some (get_or items a.slot none) else newest_of tag (tagged none items cs))
+      by : (t : Bool) → cond t (a ∷ arrivals_of_tag tag cs) (arrivals_of_tag tag cs) ≡ b ∷ bs
+          → (arrivals_of_tag tag cs ≡ b ∷ bs
+          → newest_under tag (tagged none items cs) ≡ Some (get_or items b.slot none))
+          → (if t then Some (get_or items a.slot none) else newest_under tag (tagged none items cs))
           ≡ Some (get_or items b.slot none)
       by true h rest =
           let first : a ≡ b = cc in
@@ -126,23 +124,24 @@ other_default (x ∷ xs) (suc k) d e l = other_default xs k d e (omega (arith, l
 
 -- ---- the Reads that count
 
-pub counting_is : (tag x : ℕ) (items : List Read) (cs : List Arrival) → counting tag x (tagged no_read items cs)
-    ≡ option_map (λ s. get_or items s no_read) (slot_with x items (with_tag tag cs))
+pub counting_is : (tag x : ℕ) (items : List Read) (cs : List Arrival) → read_counting tag x (tagged no_read items cs)
+    ≡ option_map (λ s. get_or items s no_read) (slot_with x items (arrivals_of_tag tag cs))
 counting_is tag x items [] = refl
 counting_is tag x items (a ∷ cs) =
     by (a.tag == tag) (has (get_or items a.slot no_read).piece x) refl (counting_is tag x items cs)
   where
     by : (t b : Bool) → has (get_or items a.slot no_read).piece x ≡ b
-        → counting tag x (tagged no_read items cs)
-        ≡ option_map (λ s. get_or items s no_read) (slot_with x items (with_tag tag cs))
-        → (if t && b then Some (get_or items a.slot no_read) else counting tag x (tagged no_read items cs))
-        ≡ option_map (λ s. get_or items s no_read) (slot_with x items (cond t (a ∷ with_tag tag cs) (with_tag tag cs)))
+        → read_counting tag x (tagged no_read items cs)
+        ≡ option_map (λ s. get_or items s no_read) (slot_with x items (arrivals_of_tag tag cs))
+        → (if t && b then Some (get_or items a.slot no_read) else read_counting tag x (tagged no_read items cs))
+        ≡ option_map (λ s. get_or items s no_read) (slot_with x items (cond t (a ∷ arrivals_of_tag tag cs)
+        (arrivals_of_tag tag cs)))
     by false b e rest = rest
     by true true e rest = sym (ap (λ (c : Bool). option_map (λ s. get_or items s no_read)
-        (if c then Some a.slot else slot_with x items (with_tag tag cs))) e)
+        (if c then Some a.slot else slot_with x items (arrivals_of_tag tag cs))) e)
     by true false e rest = rest
         ∙ sym (ap (λ (c : Bool). option_map (λ s. get_or items s no_read)
-        (if c then Some a.slot else slot_with x items (with_tag tag cs))) e)
+        (if c then Some a.slot else slot_with x items (arrivals_of_tag tag cs))) e)
 
 pub within_of : {T : Type 0} (place : T → Position) (none : T) (items : List T) (cs : List Arrival)
     → AreIn place none items cs → AllWithin (length items) cs

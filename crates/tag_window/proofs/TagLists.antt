@@ -1,5 +1,5 @@
 -- The newest slots of tags, as they change.
-use Rattle.std.proofs.Common.{ℕ, zero, suc, ◌≡◌, ◌≢◌, ◌+◌, ◌-◌, ◌/◌, ◌<◌, ◌≤◌, ◌==◌, ◌⊎◌, inl, inr, Bool, true, false}
+use Rattle.std.proofs.Common.{ℕ, zero, suc, ◌≡◌, ◌≢◌, ◌+◌, ◌<◌, ◌≤◌, ◌==◌, inl, inr, Bool}
 use Rattle.std.proofs.Common.{List, []}
 use Rattle.std.proofs.Common.{◌∷◌, ◌++◌, length, take, drop, get_or, set, Option, None, Some, refl, sym, ap, ◌∙◌}
 use Rattle.std.proofs.Common.{subst, arith, if◌then◌else◌}
@@ -8,7 +8,7 @@ use Rattle.std.specs.List.{insert, remove}
 use Rattle.std.proofs.lemmas.List.{append-nil}
 use Rattle.std.proofs.lemmas.Bool.{cases_eq, eq-eqb, ne_eqb}
 use Rattle.tag_window.specs.declared.newest.Newest.{Newest}
-use Rattle.tag_window.specs.Order.{AllTagsAbove, AllTagsBelow, Rises, slot_under, IsRank, SplitsAt, FitsAt}
+use Rattle.tag_window.specs.Order.{AllTagsAbove, AllTagsBelow, TagsRise, slot_under, IsRank, SplitsAt, FitsAt}
 
 pub yes_at : {A : Type 0} (a b : ℕ) (x y : A) → a ≡ b → (if a == b then x else y) ≡ x
 yes_at a b x y e = ap (λ (t : Bool). if t then x else y) (eq-eqb a b e)
@@ -33,8 +33,8 @@ above_less_one t (x ∷ cs) n bs h =
     ((h.0, r.0), r.1)
 
 -- one more between lower and higher tags
-pub put_rises : (cs : List Newest) (n : Newest) (bs : List Newest) → Rises (cs ++ bs) → AllTagsBelow n.tag cs
-    → AllTagsAbove n.tag bs → Rises (cs ++ n ∷ bs)
+pub put_rises : (cs : List Newest) (n : Newest) (bs : List Newest) → TagsRise (cs ++ bs) → AllTagsBelow n.tag cs
+    → AllTagsAbove n.tag bs → TagsRise (cs ++ n ∷ bs)
 put_rises [] n bs r b a = (a, r)
 put_rises (x ∷ cs) n bs r b a = (above_with x.tag cs n bs r.0 b.0, put_rises cs n bs r.1 b.1 a)
 
@@ -61,15 +61,15 @@ put_slots (x ∷ cs) n bs b u = elim (cases_eq x.tag u) [
 ]
 
 -- one less
-pub gone_rises : (cs : List Newest) (n : Newest) (bs : List Newest) → Rises (cs ++ n ∷ bs) → Rises (cs ++ bs)
+pub gone_rises : (cs : List Newest) (n : Newest) (bs : List Newest) → TagsRise (cs ++ n ∷ bs) → TagsRise (cs ++ bs)
 gone_rises [] n bs r = r.1
 gone_rises (x ∷ cs) n bs r = ((above_less_one x.tag cs n bs r.0).0, gone_rises cs n bs r.1)
 
-pub rest_above : (cs : List Newest) (n : Newest) (bs : List Newest) → Rises (cs ++ n ∷ bs) → AllTagsAbove n.tag bs
+pub rest_above : (cs : List Newest) (n : Newest) (bs : List Newest) → TagsRise (cs ++ n ∷ bs) → AllTagsAbove n.tag bs
 rest_above [] n bs r = r.0
 rest_above (x ∷ cs) n bs r = rest_above cs n bs r.1
 
-pub front_below : (cs : List Newest) (n : Newest) (bs : List Newest) → Rises (cs ++ n ∷ bs) → AllTagsBelow n.tag cs
+pub front_below : (cs : List Newest) (n : Newest) (bs : List Newest) → TagsRise (cs ++ n ∷ bs) → AllTagsBelow n.tag cs
 front_below [] n bs r = tt
 front_below (x ∷ cs) n bs r = ((above_less_one x.tag cs n bs r.0).1, front_below cs n bs r.1)
 
@@ -84,7 +84,7 @@ none_between t [] bs b a = none_above t bs a t (omega arith)
 none_between t (x ∷ cs) bs b a =
     no_at x.tag t (Some x.slot) (slot_under (cs ++ bs) t) (λ e. omega (arith, e, b.0)) ∙ none_between t cs bs b.1 a
 
-pub gone_slots : (cs : List Newest) (n : Newest) (bs : List Newest) → Rises (cs ++ n ∷ bs) → (u : ℕ)
+pub gone_slots : (cs : List Newest) (n : Newest) (bs : List Newest) → TagsRise (cs ++ n ∷ bs) → (u : ℕ)
     → slot_under (cs ++ bs) u ≡ (if u == n.tag then None else slot_under (cs ++ n ∷ bs) u)
 gone_slots cs n bs r u = elim (cases_eq u n.tag) [
   | inl e ↦
@@ -129,7 +129,8 @@ below_taken (x ∷ xs) (suc k) t h l = (
   below_taken xs k t (λ i d m. h (suc i) d (omega (arith, m))) (omega (arith, l)),
 )
 
-pub above_dropped : (xs : List Newest) (k t : ℕ) → Rises xs → ((d : Newest) → k < length xs → t < (get_or xs k d).tag)
+pub above_dropped : (xs : List Newest) (k t : ℕ) → TagsRise xs → ((d : Newest) → k < length xs
+    → t < (get_or xs k d).tag)
     → AllTagsAbove t (drop k xs)
 above_dropped [] zero t r h = tt
 above_dropped [] (suc k) t r h = tt
@@ -145,7 +146,7 @@ above_get t [] h i d l = absurd (omega (arith, l))
 above_get t (n ∷ ns) h zero d l = h.0
 above_get t (n ∷ ns) h (suc i) d l = above_get t ns h.1 i d (omega (arith, l))
 
-pub rises_at : (xs : List Newest) → Rises xs → (i j : ℕ) (d e : Newest) → i < j → j < length xs
+pub rises_at : (xs : List Newest) → TagsRise xs → (i j : ℕ) (d e : Newest) → i < j → j < length xs
     → (get_or xs i d).tag < (get_or xs j e).tag
 rises_at [] r i j d e l m = absurd (omega (arith, m))
 rises_at (x ∷ xs) r i zero d e l m = absurd (omega (arith, l))
@@ -158,7 +159,7 @@ same_get (x ∷ xs) zero d e l = refl
 same_get (x ∷ xs) (suc k) d e l = same_get xs k d e (omega (arith, l))
 
 -- all up to an item of a lower tag have lower tags
-pub lower_upto : (xs : List Newest) (m t : ℕ) (x : Newest) → Rises xs → m < length xs → x ≡ get_or xs m x → x.tag < t
+pub lower_upto : (xs : List Newest) (m t : ℕ) (x : Newest) → TagsRise xs → m < length xs → x ≡ get_or xs m x → x.tag < t
     → (k : ℕ) (d : Newest) → k ≤ m → (get_or xs k d).tag < t
 lower_upto xs m t x r l e b k d le = elim (cases_eq k m) [
   | inl s ↦
@@ -170,14 +171,16 @@ lower_upto xs m t x r l e b k d le = elim (cases_eq k m) [
 ]
 
 -- all below an item have lower tags than it
-pub lower_before : (xs : List Newest) (m t : ℕ) (x : Newest) → Rises xs → m < length xs → x ≡ get_or xs m x → x.tag ≡ t
+pub lower_before : (xs : List Newest) (m t : ℕ) (x : Newest) → TagsRise xs → m < length xs → x ≡ get_or xs m x
+    → x.tag ≡ t
     → (k : ℕ) (d : Newest) → k < m → (get_or xs k d).tag < t
 lower_before xs m t x r l e b k d lt =
     let less = rises_at xs r k m d x lt l in
     omega (arith, less, ap (λ (n : Newest). n.tag) e, b)
 
 -- all from an item on that isn't of a lower tag aren't
-pub higher_from : (xs : List Newest) (m t : ℕ) (x : Newest) → Rises xs → m < length xs → x ≡ get_or xs m x → t ≤ x.tag
+pub higher_from : (xs : List Newest) (m t : ℕ) (x : Newest) → TagsRise xs → m < length xs → x ≡ get_or xs m x
+    → t ≤ x.tag
     → (k : ℕ) (d : Newest) → m ≤ k → k < length xs → t ≤ (get_or xs k d).tag
 higher_from xs m t x r l e b k d le kl = elim (cases_eq k m) [
   | inl s ↦
@@ -197,7 +200,7 @@ rank_none xs t e = record {
   from = λ i d l m. absurd (omega (arith, e, m));
 }
 
-module _ (xs : List Newest) (t m : ℕ) (x : Newest) (r : Rises xs) (l : m < length xs) (e : x ≡ get_or xs m x) where
+module _ (xs : List Newest) (t m : ℕ) (x : Newest) (r : TagsRise xs) (l : m < length xs) (e : x ≡ get_or xs m x) where
   pub rank_past : (k : ℕ) → k ≡ length xs → k ≡ m + 1 → x.tag < t → IsRank xs t k
   rank_past k n s b = record {
     within = omega (arith, n);
@@ -222,7 +225,7 @@ module _ (xs : List Newest) (t m : ℕ) (x : Newest) (r : Rises xs) (l : m < len
   pub own_slot : x.tag ≡ t → IsRank xs t m → SplitsAt xs m t x.slot
   own_slot q k =
       let above : AllTagsAbove x.tag (drop (suc m) xs) = rest_above (take m xs) x (drop (suc m) xs)
-      (subst Rises (around xs m x l e) r) in
+      (subst TagsRise (around xs m x l e) r) in
       record {
         is = around xs m x l e ∙ ap (λ (n : ℕ). take m xs ++ record { tag = n; slot = x.slot } ∷ drop (suc m) xs) q;
         inside = l;
@@ -241,7 +244,7 @@ module _ (xs : List Newest) (t m : ℕ) (x : Newest) (r : Rises xs) (l : m < len
         omega (arith, up, tag, q)));
   }
 
-pub past_slot : (xs : List Newest) (k t : ℕ) → Rises xs → IsRank xs t k → length xs ≤ k → FitsAt xs k t
+pub past_slot : (xs : List Newest) (k t : ℕ) → TagsRise xs → IsRank xs t k → length xs ≤ k → FitsAt xs k t
 past_slot xs k t r n l = record {
   inside = n.within;
   below = below_taken xs k t n.below n.within;
@@ -267,11 +270,11 @@ pub other_is : (xs : List Newest) (k t : ℕ) → FitsAt xs k t → None ≡ slo
 other_is xs k t p = sym (ap (λ (ys : List Newest). slot_under ys t) (parted xs k)
     ∙ none_between t (take k xs) (drop k xs) p.below p.above)
 
-module _ (xs : List Newest) (k t s : ℕ) (r : Rises xs) (p : SplitsAt xs k t s) where
-  split : Rises (take k xs ++ record { tag = t; slot = s } ∷ drop (suc k) xs)
-  split = subst Rises p.is r
+module _ (xs : List Newest) (k t s : ℕ) (r : TagsRise xs) (p : SplitsAt xs k t s) where
+  split : TagsRise (take k xs ++ record { tag = t; slot = s } ∷ drop (suc k) xs)
+  split = subst TagsRise p.is r
 
-  pub removed_rises : Rises (remove xs k)
+  pub removed_rises : TagsRise (remove xs k)
   removed_rises = gone_rises (take k xs) (record { tag = t; slot = s }) (drop (suc k) xs) split
 
   pub removed_slots : (u : ℕ) → slot_under (remove xs k) u ≡ (if u == t then None else slot_under xs u)
@@ -279,8 +282,8 @@ module _ (xs : List Newest) (k t s : ℕ) (r : Rises xs) (p : SplitsAt xs k t s)
       ∙ ap (λ (ys : List Newest). if u == t then None else slot_under ys u) (sym p.is)
 
   module _ (n : ℕ) where
-    pub set_rises : Rises (set xs k (record { tag = t; slot = n }))
-    set_rises = subst Rises (sym (set_around xs k (record { tag = t; slot = n }) p.inside))
+    pub set_rises : TagsRise (set xs k (record { tag = t; slot = n }))
+    set_rises = subst TagsRise (sym (set_around xs k (record { tag = t; slot = n }) p.inside))
         (put_rises (take k xs) (record { tag = t; slot = n }) (drop (suc k) xs) removed_rises p.below p.above)
 
     pub set_slots : (u : ℕ) → slot_under (set xs k (record { tag = t; slot = n })) u
@@ -298,9 +301,9 @@ module _ (xs : List Newest) (k t s : ℕ) (r : Rises xs) (p : SplitsAt xs k t s)
               ∙ sym (no_at u t (Some n) (slot_under xs u) d)
         ]
 
-module _ (xs : List Newest) (k t n : ℕ) (r : Rises xs) (p : FitsAt xs k t) where
-  pub inserted_rises : Rises (insert xs k (record { tag = t; slot = n }))
-  inserted_rises = put_rises (take k xs) (record { tag = t; slot = n }) (drop k xs) (subst Rises (parted xs k) r)
+module _ (xs : List Newest) (k t n : ℕ) (r : TagsRise xs) (p : FitsAt xs k t) where
+  pub inserted_rises : TagsRise (insert xs k (record { tag = t; slot = n }))
+  inserted_rises = put_rises (take k xs) (record { tag = t; slot = n }) (drop k xs) (subst TagsRise (parted xs k) r)
       p.below
       p.above
 
@@ -318,36 +321,36 @@ untaken_slots xs k t p u = elim (cases_eq u t) [
 
 -- ---- the ends
 
-pub first_slots : (xs ys : List Newest) (o : Option Newest) → Rises xs → xs ≡ option_to_list o ++ ys
+pub first_slots : (xs ys : List Newest) (o : Option Newest) → TagsRise xs → xs ≡ option_to_list o ++ ys
     → IfSome o (λ n. (u : ℕ) → slot_under ys u ≡ (if u == n.tag then None else slot_under xs u))
 first_slots xs ys None r e = tt
 first_slots xs ys (Some n) r e = λ u.
-    gone_slots [] n ys (subst Rises e r) u
+    gone_slots [] n ys (subst TagsRise e r) u
     ∙ ap (λ (zs : List Newest). if u == n.tag then None else slot_under zs u) (sym e)
 
-pub last_slots : (xs ys : List Newest) (o : Option Newest) → Rises xs → xs ≡ ys ++ option_to_list o
+pub last_slots : (xs ys : List Newest) (o : Option Newest) → TagsRise xs → xs ≡ ys ++ option_to_list o
     → IfSome o (λ n. (u : ℕ) → slot_under ys u ≡ (if u == n.tag then None else slot_under xs u))
 last_slots xs ys None r e = tt
 last_slots xs ys (Some n) r e = λ u.
     ap (λ (zs : List Newest). slot_under zs u) (sym (append-nil ys))
-    ∙ gone_slots ys n [] (subst Rises e r) u
+    ∙ gone_slots ys n [] (subst TagsRise e r) u
     ∙ ap (λ (zs : List Newest). if u == n.tag then None else slot_under zs u) (sym e)
 
-pub last_rises : (xs ys : List Newest) (o : Option Newest) → Rises xs → xs ≡ ys ++ option_to_list o → Rises ys
-last_rises xs ys None r e = subst Rises (e ∙ append-nil ys) r
-last_rises xs ys (Some n) r e = subst Rises (append-nil ys) (gone_rises ys n [] (subst Rises e r))
+pub last_rises : (xs ys : List Newest) (o : Option Newest) → TagsRise xs → xs ≡ ys ++ option_to_list o → TagsRise ys
+last_rises xs ys None r e = subst TagsRise (e ∙ append-nil ys) r
+last_rises xs ys (Some n) r e = subst TagsRise (append-nil ys) (gone_rises ys n [] (subst TagsRise e r))
 
-pub last_taken : (xs ys : List Newest) (o : Option Newest) (t m : ℕ) (x : Newest) → Rises xs
+pub last_taken : (xs ys : List Newest) (o : Option Newest) (t m : ℕ) (x : Newest) → TagsRise xs
     → xs ≡ ys ++ option_to_list o → t ≤ x.tag → x ≡ get_or xs m x → m < length xs → IfSome o (λ n. n ≡ get_or xs m n)
     → IfSome o (λ n. (t ≤ n.tag) × (slot_under xs n.tag ≡ Some n.slot))
 last_taken xs ys None t m x r e b q l h = tt
 last_taken xs ys (Some n) t m x r e b q l h =
     let same : n ≡ x = h ∙ same_get xs m n x l ∙ sym q in (
       omega (arith, b, ap (λ (y : Newest). y.tag) same),
-      ap (λ (zs : List Newest). slot_under zs n.tag) e ∙ there_slot ys n [] (front_below ys n [] (subst Rises e r)),
+      ap (λ (zs : List Newest). slot_under zs n.tag) e ∙ there_slot ys n [] (front_below ys n [] (subst TagsRise e r)),
     )
 
-pub all_higher : (xs : List Newest) (t : ℕ) (x : Newest) → Rises xs → 0 < length xs → x ≡ get_or xs 0 x → t < x.tag
+pub all_higher : (xs : List Newest) (t : ℕ) (x : Newest) → TagsRise xs → 0 < length xs → x ≡ get_or xs 0 x → t < x.tag
     → (u : ℕ) → u ≤ t → slot_under xs u ≡ None
 all_higher [] t x r l e b u j = refl
 all_higher (y ∷ ys) t x r l e b u j =
@@ -355,7 +358,8 @@ all_higher (y ∷ ys) t x r l e b u j =
     no_at y.tag u (Some y.slot) (slot_under ys u) (λ s. omega (arith, s, tag, b, j))
     ∙ none_above y.tag ys r.0 u (omega (arith, tag, b, j))
 
-pub all_lower : (xs : List Newest) (t m : ℕ) (x : Newest) → Rises xs → m + 1 ≡ length xs → x ≡ get_or xs m x → x.tag < t
+pub all_lower : (xs : List Newest) (t m : ℕ) (x : Newest) → TagsRise xs → m + 1 ≡ length xs → x ≡ get_or xs m x
+    → x.tag < t
     → (u : ℕ) → t ≤ u → slot_under xs u ≡ None
 all_lower xs t m x r l e b u j = by xs (λ i d o. lower_upto xs m t x r (omega (arith, l)) e b i d (omega (arith, l, o)))
   where

@@ -13,13 +13,13 @@ use Rattle.tag_window.specs.declared.order.Arrival.{Arrival}
 use Rattle.tag_window.specs.declared.order.TagOrder.{TagOrder}
 
 -- the two places are the same
-abbrev pub same_place : Position → Position → Bool
-same_place a b = (a.message == b.message) && (a.insert == b.insert)
+abbrev pub is_same_position : Position → Position → Bool
+is_same_position a b = (a.message == b.message) && (a.insert == b.insert)
 
 -- a slot is taken by the report of this place
 abbrev pub is_at : Option Link → Position → Bool
 is_at None place = false
-is_at (Some link) place = same_place link.place place
+is_at (Some link) place = is_same_position link.place place
 
 -- a report is there: its slot is taken, and by it
 abbrev pub is_live : (ℕ → Option Link) → Arrival → Bool
@@ -30,8 +30,8 @@ abbrev pub live_of : (ℕ → Option Link) → List Arrival → List Arrival
 live_of at arrivals = filter (is_live at) arrivals
 
 -- the same of an order
-abbrev pub live : TagOrder → List Arrival
-live order = live_of (get order.links) order.arrivals.items
+abbrev pub live_reports : TagOrder → List Arrival
+live_reports order = live_of (get order.links) order.arrivals.items
 
 -- each of them came before this place
 abbrev pub AllBefore : Position → List Arrival → Type 0
@@ -39,9 +39,9 @@ AllBefore place [] = Unit {0}
 AllBefore place (a ∷ cs) = (comes_before a.place place ≡ true) × AllBefore place cs
 
 -- each came before the one in front of it
-abbrev pub Falls : List Arrival → Type 0
-Falls [] = Unit {0}
-Falls (a ∷ cs) = AllBefore a.place cs × Falls cs
+abbrev pub PlacesFall : List Arrival → Type 0
+PlacesFall [] = Unit {0}
+PlacesFall (a ∷ cs) = AllBefore a.place cs × PlacesFall cs
 
 -- each of them is in another slot than this one
 abbrev pub AllElsewhere : ℕ → List Arrival → Type 0
@@ -58,8 +58,8 @@ abbrev pub EndsLive : (ℕ → Option Link) → List Arrival → Type 0
 EndsLive at cs = (bs : List Arrival) (a : Arrival) → cs ≡ bs ++ a ∷ [] → is_live at a ≡ true
 
 -- those of a tag
-abbrev pub with_tag : ℕ → List Arrival → List Arrival
-with_tag tag cs = filter (λ a. a.tag == tag) cs
+abbrev pub arrivals_of_tag : ℕ → List Arrival → List Arrival
+arrivals_of_tag tag cs = filter (λ a. a.tag == tag) cs
 
 -- those of other tags
 abbrev pub arrivals_without : ℕ → List Arrival → List Arrival
@@ -74,16 +74,17 @@ abbrev pub arrivals_below : ℕ → List Arrival → List Arrival
 arrivals_below tag cs = filter (λ a. nat_lt a.tag tag) cs
 
 -- from this slot the links lead through these reports, and end
-abbrev pub IsChain : (ℕ → Option Link) → Option ℕ → List Arrival → Type 0
-IsChain at head [] = head ≡ None
-IsChain at head (a ∷ cs) =
-    (link : Link) × (head ≡ Some a.slot) × (at a.slot ≡ Some link) × (link.place ≡ a.place) × IsChain at link.older cs
+abbrev pub IsTagChain : (ℕ → Option Link) → Option ℕ → List Arrival → Type 0
+IsTagChain at head [] = head ≡ None
+IsTagChain at head (a ∷ cs) =
+    (link : Link) × (head ≡ Some a.slot) × (at a.slot ≡ Some link) × (link.place ≡ a.place)
+    × IsTagChain at link.older cs
 
 -- there are such reports, each older than the one before it
-pub record IsChained (at : ℕ → Option Link) (head : Option ℕ) : Type 0 where
+pub record IsTagChained (at : ℕ → Option Link) (head : Option ℕ) : Type 0 where
   pub reports : List Arrival
-  pub chain : IsChain at head reports
-  pub falls : Falls reports
+  pub chain : IsTagChain at head reports
+  pub falls : PlacesFall reports
 
 -- the slots of these reports are free now, and the others are as they were
 pub record Freed (at new : ℕ → Option Link) (cs : List Arrival) : Type 0 where
@@ -96,9 +97,9 @@ AllTagsAbove tag [] = Unit {0}
 AllTagsAbove tag (n ∷ ns) = (tag < n.tag) × AllTagsAbove tag ns
 
 -- the tags rise
-abbrev pub Rises : List Newest → Type 0
-Rises [] = Unit {0}
-Rises (n ∷ ns) = AllTagsAbove n.tag ns × Rises ns
+abbrev pub TagsRise : List Newest → Type 0
+TagsRise [] = Unit {0}
+TagsRise (n ∷ ns) = AllTagsAbove n.tag ns × TagsRise ns
 
 -- the tags are all below this one
 abbrev pub AllTagsBelow : ℕ → List Newest → Type 0
@@ -131,13 +132,14 @@ slot_under (n ∷ ns) tag = if n.tag == tag then Some n.slot else slot_under ns 
 
 -- the reports that are there are linked under their tags
 pub record AreKept (links : Slab Link) (arrivals : List Arrival) (newest : List Newest) : Type 0 where
-  pub falls : Falls arrivals
-  pub rises : Rises newest
-  pub chains : (tag : ℕ) → IsChain (get links) (slot_under newest tag) (with_tag tag (live_of (get links) arrivals))
+  pub falls : PlacesFall arrivals
+  pub rises : TagsRise newest
+  pub chains : (tag : ℕ)
+      → IsTagChain (get links) (slot_under newest tag) (arrivals_of_tag tag (live_of (get links) arrivals))
   pub count : length (live_of (get links) arrivals) ≡ slab_len links
 
 -- and neither the first nor the last arrival is gone, and there is room
-pub record IsSound (order : TagOrder) : Type 0 where
+pub record IsTagOrder (order : TagOrder) : Type 0 where
   pub kept : AreKept order.links order.arrivals.items order.newest.items
   pub starts : StartsLive (get order.links) order.arrivals.items
   pub ends : EndsLive (get order.links) order.arrivals.items

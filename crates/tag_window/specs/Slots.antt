@@ -8,7 +8,7 @@ use Rattle.byte_memory.specs.declared.capture.Capture.{Capture}
 use Rattle.slab.specs.Slab.{Slab, get, slab_len}
 use Rattle.tag_window.specs.declared.links.Link.{Link}
 use Rattle.tag_window.specs.declared.order.Arrival.{Arrival}
-use Rattle.tag_window.specs.Order.{IsChain}
+use Rattle.tag_window.specs.Order.{IsTagChain}
 use Rattle.tag_window.specs.declared.reports.Read.{Read}
 use Rattle.tag_window.specs.declared.reports.Early.{Early}
 use Rattle.msg_frames.specs.Pieces.{has}
@@ -55,7 +55,7 @@ AllWithin size (a ∷ cs) = (a.slot < size) × AllWithin size cs
 -- from this slot the links lead through reports in slots below this number, of which there are no more than links
 pub record AreLinked (links : Slab Link) (head : Option ℕ) (size : ℕ) : Type 0 where
   pub reports : List Arrival
-  pub chain : IsChain (get links) head reports
+  pub chain : IsTagChain (get links) head reports
   pub within : AllWithin size reports
   pub fits : length reports ≤ slab_len links
 
@@ -67,11 +67,12 @@ slot_with x items (a ∷ cs) =
 
 -- the first of the linked Reads that has the byte at x is in this slot
 abbrev pub FindsAt : Slab Link → Option ℕ → List Read → ℕ → ℕ → Type 0
-FindsAt links head items x slot = (cs : List Arrival) → IsChain (get links) head cs → Some slot ≡ slot_with x items cs
+FindsAt links head items x slot = (cs : List Arrival) → IsTagChain (get links) head cs
+    → Some slot ≡ slot_with x items cs
 
 -- none of the linked Reads has the byte at x
 abbrev pub MissesAt : Slab Link → Option ℕ → List Read → ℕ → Type 0
-MissesAt links head items x = (cs : List Arrival) → IsChain (get links) head cs → None ≡ slot_with x items cs
+MissesAt links head items x = (cs : List Arrival) → IsTagChain (get links) head cs → None ≡ slot_with x items cs
 
 -- none of the linked Reads has the byte of the extent at `at`, and each byte before it one of them has
 pub record IsFirstMiss (links : Slab Link) (head : Option ℕ) (items : List Read) (extent : Extent) (at : ℕ) : Type 0
@@ -89,7 +90,7 @@ pub record IsFirstSame (slots : List ℕ) (k j : ℕ) : Type 0 where
   pub lowest : (i : ℕ) → i < j → slice_index slots i ≢ slice_index slots k
 
 -- the earlier of two places, where there are two
-abbrev pub earlier_of : Option Position → Option Position → Option Position
-earlier_of None b = b
-earlier_of (Some p) None = Some p
-earlier_of (Some p) (Some q) = if comes_before q p then Some q else Some p
+abbrev pub earlier_position : Option Position → Option Position → Option Position
+earlier_position None b = b
+earlier_position (Some p) None = Some p
+earlier_position (Some p) (Some q) = if comes_before q p then Some q else Some p

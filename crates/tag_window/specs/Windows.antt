@@ -1,5 +1,5 @@
 -- The live Reads and early Bypasses of a hart.
-use Rattle.std.specs.Prelude.{ℕ, ◌≡◌, ◌≢◌, ◌+◌, ◌<◌, ◌≤◌, ◌==◌, ◌&&◌, ◌⊎◌, not, nat_lt, Bool, true, false, List, []}
+use Rattle.std.specs.Prelude.{ℕ, ◌≡◌, ◌≢◌, ◌+◌, ◌<◌, ◌≤◌, ◌==◌, ◌&&◌, ◌⊎◌, not, nat_lt, true, false, List, []}
 use Rattle.std.specs.Prelude.{◌∷◌}
 use Rattle.std.specs.Prelude.{◌++◌, length, map, Option, None, Some, is_some, if◌then◌else◌}
 use Rattle.std.specs.List.{filter}
@@ -30,10 +30,6 @@ pub record Window : Type 0 where
 abbrev pub live_count : Window → ℕ
 live_count window = length window.reads + length window.bypasses
 
--- a window that holds as many as there may be is full, or takes one more
-abbrev pub took : Window → Took
-took window = if live_count window == window.capacity then Full window.capacity else Yes
-
 -- the reports after the answer to one more
 abbrev pub after_one : {T : Type 0} → Took → Tagged T → List (Tagged T) → List (Tagged T)
 after_one Yes x xs = x ∷ xs
@@ -53,9 +49,9 @@ module _ {T : Type 0} where
   without tag xs = filter (λ x. not (x.tag == tag)) xs
 
   -- the newest that was given this tag
-  abbrev pub newest_of : ℕ → List (Tagged T) → Option T
-  newest_of tag [] = None
-  newest_of tag (x ∷ xs) = if x.tag == tag then Some x.item else newest_of tag xs
+  abbrev pub newest_under : ℕ → List (Tagged T) → Option T
+  newest_under tag [] = None
+  newest_under tag (x ∷ xs) = if x.tag == tag then Some x.item else newest_under tag xs
 
   -- one of them was given this tag
   abbrev pub Has : ℕ → List (Tagged T) → Type 0
@@ -68,29 +64,29 @@ module _ {T : Type 0} where
   AllFrom tag (x ∷ xs) = (tag ≤ x.tag) × AllFrom tag xs
 
   -- the lowest tag that one of them was given is this one, and below a bound; or none is below it
-  abbrev pub IsLowest : ℕ → Option ℕ → List (Tagged T) → Type 0
-  IsLowest bound None xs = AllFrom bound xs
-  IsLowest bound (Some tag) xs = (tag < bound) × Has tag xs × AllFrom tag xs
+  abbrev pub IsLowestGiven : ℕ → Option ℕ → List (Tagged T) → Type 0
+  IsLowestGiven bound None xs = AllFrom bound xs
+  IsLowestGiven bound (Some tag) xs = (tag < bound) × Has tag xs × AllFrom tag xs
 
 -- the Read that counts for the byte at x of a load with this tag: the newest of the tag that has the byte
-abbrev pub counting : ℕ → ℕ → List (Tagged Read) → Option Read
-counting tag x [] = None
-counting tag x (r ∷ rs) = if (r.tag == tag) && has r.item.piece x then Some r.item else counting tag x rs
+abbrev pub read_counting : ℕ → ℕ → List (Tagged Read) → Option Read
+read_counting tag x [] = None
+read_counting tag x (r ∷ rs) = if (r.tag == tag) && has r.item.piece x then Some r.item else read_counting tag x rs
 
 -- the bytes at `addr + k` and at `addr + j` count from the same Read, and those below `addr + j` don't: byte k of
 -- the load
 -- is in the part that begins with byte j
-pub record IsPartOf (tag addr : ℕ) (reads : List (Tagged Read)) (k j : ℕ) : Type 0 where
-  pub counts : is_some (counting tag (addr + k) reads) ≡ true
+pub record IsInPart (tag addr : ℕ) (reads : List (Tagged Read)) (k j : ℕ) : Type 0 where
+  pub counts : is_some (read_counting tag (addr + k) reads) ≡ true
   pub upto : j ≤ k
-  pub same : counting tag (addr + j) reads ≡ counting tag (addr + k) reads
-  pub lowest : (i : ℕ) → i < j → counting tag (addr + i) reads ≢ counting tag (addr + k) reads
+  pub same : read_counting tag (addr + j) reads ≡ read_counting tag (addr + k) reads
+  pub lowest : (i : ℕ) → i < j → read_counting tag (addr + i) reads ≢ read_counting tag (addr + k) reads
 
 -- no Read counts for the byte at this address of the extent, and one counts for each of those below it
 pub record IsLowestMissing (tag : ℕ) (extent : Extent) (reads : List (Tagged Read)) (at : ℕ) : Type 0 where
   pub inside : is_among extent.addr extent.len at ≡ true
-  pub missing : counting tag at reads ≡ None
-  pub lowest : (x : ℕ) → extent.addr ≤ x → x < at → is_some (counting tag x reads) ≡ true
+  pub missing : read_counting tag at reads ≡ None
+  pub lowest : (x : ℕ) → extent.addr ≤ x → x < at → is_some (read_counting tag x reads) ≡ true
 
 -- a fact where each byte has a Read
 abbrev pub IfAll : Counting → (List ℕ → Type 0) → Type 0
@@ -103,12 +99,12 @@ IfMissing (All parts) P = Unit {0}
 IfMissing (Missing at) P = P at
 
 -- the places of the Reads
-abbrev pub read_places : List (Tagged Read) → List Position
-read_places rs = map (λ r. r.item.seen.place) rs
+abbrev pub places_of_reads : List (Tagged Read) → List Position
+places_of_reads rs = map (λ r. r.item.seen.place) rs
 
 -- the places of the Bypasses
-abbrev pub bypass_places : List (Tagged Early) → List Position
-bypass_places bs = map (λ b. b.item.seen.seen.place) bs
+abbrev pub places_of_bypasses : List (Tagged Early) → List Position
+places_of_bypasses bs = map (λ b. b.item.seen.seen.place) bs
 
 -- each of the places comes before this one
 abbrev pub AllEarlier : Position → List Position → Type 0
@@ -132,9 +128,9 @@ IsEarliest ps (Some place) = Among place ps × NoneEarlier place ps
 
 -- the place of the oldest report
 abbrev pub IsOldestOf : Window → Option Position → Type 0
-IsOldestOf window oldest = IsEarliest (read_places window.reads ++ bypass_places window.bypasses) oldest
+IsOldestOf window oldest = IsEarliest (places_of_reads window.reads ++ places_of_bypasses window.bypasses) oldest
 
 -- all reports came before this message
 abbrev pub ComesAfter : ℕ → Window → Type 0
-ComesAfter message window = AllEarlier (record { message = message; insert = message }) (read_places window.reads)
-    × AllEarlier (record { message = message; insert = message }) (bypass_places window.bypasses)
+ComesAfter message window = AllEarlier (record { message = message; insert = message }) (places_of_reads window.reads)
+    × AllEarlier (record { message = message; insert = message }) (places_of_bypasses window.bypasses)

@@ -4,7 +4,7 @@ ghost use Rattle.std.specs.Prelude.{◌≡◌, ◌≢◌, ◌+◌, ◌<◌, ◌�
 ghost use Rattle.std.specs.Prelude.{IfSome, IfNone};
 ghost use Rattle.slab.specs.Slab.{get};
 ghost use Rattle.tag_window.specs.declared.order.Arrival.{Arrival as Item};
-ghost use Rattle.tag_window.specs.Order.{IsChain};
+ghost use Rattle.tag_window.specs.Order.{IsTagChain};
 ghost use Rattle.tag_window.specs.Slots.{AreLinked, FindsAt, IsFirstMiss, IsFirstSame, slot_with};
 ghost use Rattle.msg_frames.specs.Pieces.{has};
 
@@ -18,7 +18,7 @@ use tandem_base::Extent;
 #[derive(Clone, Copy, Debug, PartialEq, Eq)]
 pub enum Counting {
     /// Each byte has one. The bytes that count from one Read are a part of the load, which goes by the
-    /// lowest of them: for each byte of the load, the part that it is in. 0 past the load's bytes.
+    /// lowest of them: for each byte of the load, the part that it is in.
     All([u8; 8]),
     /// A byte has none; the lowest such address.
     Missing(u64),
@@ -34,7 +34,7 @@ fn has_byte(piece: &Piece, addr: u64) -> bool
 /// The slot of the newest of the linked Reads that has the byte at an address.
 pub fn find(links: &Slab<Link>, reads: &Vec<Read>, head: Option<usize>, addr: u64) -> Option<usize>
     requires { AreLinked links.now head (length reads.now.items) }
-    ensures { (cs : List Item) → IsChain (get links.now) head cs → result ≡ slot_with addr reads.now.items cs }
+    ensures { (cs : List Item) → IsTagChain (get links.now) head cs → result ≡ slot_with addr reads.now.items cs }
 {
     let mut at = head;
     let mut left = links.len();

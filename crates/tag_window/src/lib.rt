@@ -11,7 +11,7 @@ mod slots;
 mod tags;
 
 pub use counting::Counting;
-pub use laws::live_reads_are_those_that_nothing_dropped;
+pub use laws::{early_bypasses_wait_for_their_retire, live_reads_are_those_that_nothing_dropped};
 pub use reports::{Early, Read};
 pub use tags::Tags;
 

@@ -3,7 +3,7 @@
 ghost use Rattle.std.specs.Prelude.{◌≡◌, ◌≢◌, ◌+◌, ℕ, List, length, Some, None, IsSome};
 ghost use Rattle.slab.specs.Slab.{get, slab_len};
 ghost use Rattle.tag_window.specs.declared.order.Arrival.{Arrival as Item};
-ghost use Rattle.tag_window.specs.Order.{Falls, IsChain, IsChained, Freed};
+ghost use Rattle.tag_window.specs.Order.{PlacesFall, IsTagChain, IsTagChained, Freed};
 
 use slab::Slab;
 use tandem_base::Position;
@@ -28,10 +28,10 @@ pub fn link_at(links: &Slab<Link>, at: usize) -> &Link
 
 /// Frees the slots to which the links lead.
 pub fn free(links: &mut Slab<Link>, head: Option<usize>)
-    requires { IsChained (get links.old) head }
-    ensures freed { (cs : List Item) → IsChain (get links.old) head cs → Falls cs →
+    requires { IsTagChained (get links.old) head }
+    ensures freed { (cs : List Item) → IsTagChain (get links.old) head cs → PlacesFall cs →
         Freed (get links.old) (get links.new) cs }
-    ensures count { (cs : List Item) → IsChain (get links.old) head cs → Falls cs →
+    ensures count { (cs : List Item) → IsTagChain (get links.old) head cs → PlacesFall cs →
         slab_len links.new + length cs ≡ slab_len links.old }
     ensures capacity { links.new.capacity ≡ links.old.capacity }
 {

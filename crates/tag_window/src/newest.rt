@@ -3,7 +3,7 @@
 ghost use Rattle.std.specs.Prelude.{◌≡◌, ◌<◌, ◌≤◌, ◌==◌, ℕ, length, Some, None, IfSome, IfNone};
 ghost use Rattle.std.specs.Prelude.{if◌then◌else◌};
 ghost use Rattle.std.specs.VecDeque.{deque_capacity};
-ghost use Rattle.tag_window.specs.Order.{Rises, slot_under, IsRank, SplitsAt, FitsAt};
+ghost use Rattle.tag_window.specs.Order.{TagsRise, slot_under, IsRank, SplitsAt, FitsAt};
 
 use std::collections::VecDeque;
 
@@ -16,7 +16,7 @@ pub struct Newest {
 
 /// How many of the tags are below this one. A tag at either end is found at once.
 pub fn rank(newest: &VecDeque<Newest>, tag: u64) -> usize
-    requires { Rises newest.now.items }
+    requires { TagsRise newest.now.items }
     ensures { IsRank newest.now.items tag result }
 {
     let count = newest.len();
@@ -38,7 +38,7 @@ pub fn rank(newest: &VecDeque<Newest>, tag: u64) -> usize
 
 /// The same, by halving.
 fn halve(newest: &VecDeque<Newest>, tag: u64) -> usize
-    requires { Rises newest.now.items }
+    requires { TagsRise newest.now.items }
     ensures { IsRank newest.now.items tag result }
 {
     let mut low = 0;
@@ -56,7 +56,7 @@ fn halve(newest: &VecDeque<Newest>, tag: u64) -> usize
 
 /// The slot at a tag's rank, where it is the tag's own.
 fn slot_at(newest: &VecDeque<Newest>, k: usize, tag: u64) -> Option<usize>
-    requires rises { Rises newest.now.items }
+    requires rises { TagsRise newest.now.items }
     requires rank { IsRank newest.now.items tag k }
     ensures own { IfSome result (λ slot. SplitsAt newest.now.items k tag slot) }
     ensures other { IfNone result (FitsAt newest.now.items k tag) }
@@ -75,7 +75,7 @@ fn slot_at(newest: &VecDeque<Newest>, k: usize, tag: u64) -> Option<usize>
 
 /// The newest slot of a tag.
 pub fn slot_of(newest: &VecDeque<Newest>, tag: u64) -> Option<usize>
-    requires { Rises newest.now.items }
+    requires { TagsRise newest.now.items }
     ensures { result ≡ slot_under newest.now.items tag }
 {
     let k = rank(newest, tag);
@@ -84,10 +84,10 @@ pub fn slot_of(newest: &VecDeque<Newest>, tag: u64) -> Option<usize>
 
 /// Makes a slot the newest of its tag, and answers the one that was.
 pub fn put(newest: &mut VecDeque<Newest>, tag: u64, slot: usize) -> Option<usize>
-    requires rises { Rises newest.old.items }
+    requires rises { TagsRise newest.old.items }
     requires room { length newest.old.items < deque_capacity newest.old }
     ensures was { result ≡ slot_under newest.old.items tag }
-    ensures rises { Rises newest.new.items }
+    ensures rises { TagsRise newest.new.items }
     ensures slots { (u : ℕ) → slot_under newest.new.items u
         ≡ (if u == tag then Some slot else slot_under newest.old.items u) }
     ensures capacity { deque_capacity newest.old ≤ deque_capacity newest.new }
@@ -107,9 +107,9 @@ pub fn put(newest: &mut VecDeque<Newest>, tag: u64, slot: usize) -> Option<usize
 
 /// Takes a tag away, and answers its newest slot.
 pub fn take(newest: &mut VecDeque<Newest>, tag: u64) -> Option<usize>
-    requires rises { Rises newest.old.items }
+    requires rises { TagsRise newest.old.items }
     ensures was { result ≡ slot_under newest.old.items tag }
-    ensures rises { Rises newest.new.items }
+    ensures rises { TagsRise newest.new.items }
     ensures slots { (u : ℕ) → slot_under newest.new.items u
         ≡ (if u == tag then None else slot_under newest.old.items u) }
     ensures capacity { deque_capacity newest.new ≡ deque_capacity newest.old }
@@ -126,13 +126,13 @@ pub fn take(newest: &mut VecDeque<Newest>, tag: u64) -> Option<usize>
 
 /// Takes the lowest tag away, where it is at most this one.
 pub fn take_first(newest: &mut VecDeque<Newest>, tag: u64) -> Option<Newest>
-    requires rises { Rises newest.old.items }
+    requires rises { TagsRise newest.old.items }
     ensures taken { IfSome result (λ n. (n.tag ≤ tag) × (slot_under newest.old.items n.tag ≡ Some n.slot)) }
     ensures slots { IfSome result (λ n. (u : ℕ) → slot_under newest.new.items u
         ≡ (if u == n.tag then None else slot_under newest.old.items u)) }
     ensures none { IfNone result ((u : ℕ) → u ≤ tag → slot_under newest.old.items u ≡ None) }
     ensures unchanged { IfNone result (newest.new.items ≡ newest.old.items) }
-    ensures rises { Rises newest.new.items }
+    ensures rises { TagsRise newest.new.items }
     ensures fewer { length newest.new.items ≤ length newest.old.items }
     ensures capacity { deque_capacity newest.new ≡ deque_capacity newest.old }
 {
@@ -149,13 +149,13 @@ pub fn take_first(newest: &mut VecDeque<Newest>, tag: u64) -> Option<Newest>
 
 /// Takes the highest tag away, where it is at least this one.
 pub fn take_last(newest: &mut VecDeque<Newest>, tag: u64) -> Option<Newest>
-    requires rises { Rises newest.old.items }
+    requires rises { TagsRise newest.old.items }
     ensures taken { IfSome result (λ n. (tag ≤ n.tag) × (slot_under newest.old.items n.tag ≡ Some n.slot)) }
     ensures slots { IfSome result (λ n. (u : ℕ) → slot_under newest.new.items u
         ≡ (if u == n.tag then None else slot_under newest.old.items u)) }
     ensures none { IfNone result ((u : ℕ) → tag ≤ u → slot_under newest.old.items u ≡ None) }
     ensures unchanged { IfNone result (newest.new.items ≡ newest.old.items) }
-    ensures rises { Rises newest.new.items }
+    ensures rises { TagsRise newest.new.items }
     ensures fewer { length newest.new.items ≤ length newest.old.items }
     ensures capacity { deque_capacity newest.new ≡ deque_capacity newest.old }
 {

@@ -4,7 +4,7 @@ ghost use Rattle.std.specs.Prelude.{◌≡◌, ◌&&◌, ◌==◌, ◌≤◌, Bo
 ghost use Rattle.std.specs.List.{filter};
 ghost use Rattle.slab.specs.Slab.{get};
 ghost use Rattle.std.specs.VecDeque.{deque_capacity};
-ghost use Rattle.tag_window.specs.Order.{is_live, same_place, StartsLive, EndsLive, Falls};
+ghost use Rattle.tag_window.specs.Order.{is_live, is_same_position, StartsLive, EndsLive, PlacesFall};
 
 use crate::links::{self, Link};
 use crate::newest::{self, Newest};
@@ -33,7 +33,7 @@ pub struct TagOrder {
 
 /// Whether two places are the same.
 fn is_same(a: Position, b: Position) -> bool
-    ensures { result ≡ same_place a b }
+    ensures { result ≡ is_same_position a b }
 {
     a.message == b.message && a.insert == b.insert
 }
@@ -50,10 +50,10 @@ fn is_here(links: &Slab<Link>, arrival: &Arrival) -> bool
 
 /// Drops the newest arrivals that are gone.
 fn trim_newest(links: &Slab<Link>, arrivals: &mut VecDeque<Arrival>)
-    requires { Falls arrivals.old.items }
+    requires { PlacesFall arrivals.old.items }
     ensures live { filter (is_live (get links.now)) arrivals.new.items
         ≡ filter (is_live (get links.now)) arrivals.old.items }
-    ensures falls { Falls arrivals.new.items }
+    ensures falls { PlacesFall arrivals.new.items }
     ensures starts { StartsLive (get links.now) arrivals.new.items }
     ensures capacity { deque_capacity arrivals.new ≡ deque_capacity arrivals.old }
 {
@@ -72,11 +72,11 @@ fn trim_newest(links: &Slab<Link>, arrivals: &mut VecDeque<Arrival>)
 
 /// Drops the oldest arrivals that are gone.
 fn trim_oldest(links: &Slab<Link>, arrivals: &mut VecDeque<Arrival>)
-    requires falls { Falls arrivals.old.items }
+    requires falls { PlacesFall arrivals.old.items }
     requires starts { StartsLive (get links.now) arrivals.old.items }
     ensures live { filter (is_live (get links.now)) arrivals.new.items
         ≡ filter (is_live (get links.now)) arrivals.old.items }
-    ensures falls { Falls arrivals.new.items }
+    ensures falls { PlacesFall arrivals.new.items }
     ensures starts { StartsLive (get links.now) arrivals.new.items }
     ensures ends { EndsLive (get links.now) arrivals.new.items }
     ensures capacity { deque_capacity arrivals.new ≡ deque_capacity arrivals.old }
@@ -104,13 +104,13 @@ fn sweep(links: &Slab<Link>, arrivals: &mut VecDeque<Arrival>)
 
 impl TagOrder {
     ghost use Rattle.std.specs.Prelude.{◌≡◌, ◌≢◌, ◌<◌, ◌≤◌, ◌==◌, ◌&&◌, not, nat_lt, [], ◌∷◌, length, IfOk};
-    ghost use Rattle.tag_window.specs.Order.{IsSound, AllBefore, AllElsewhere, IsLowestTag, IsOldest, live};
+    ghost use Rattle.tag_window.specs.Order.{IsTagOrder, AllBefore, AllElsewhere, IsLowestTag, IsOldest, live_reports};
     ghost use Rattle.tag_window.specs.Order.{arrivals_above, arrivals_below, arrivals_without};
 
     /// No reports, with room for `capacity`.
     pub fn new(alloc: Global, capacity: u32) -> Result<TagOrder, AllocError>
-        ensures sound { IfOk result (λ order. IsSound order) }
-        ensures empty { IfOk result (λ order. live order ≡ []) }
+        ensures sound { IfOk result (λ order. IsTagOrder order) }
+        ensures empty { IfOk result (λ order. live_reports order ≡ []) }
         ensures capacity { IfOk result (λ order. order.capacity ≡ capacity) }
     {
         let room = capacity as usize;
@@ -124,18 +124,18 @@ impl TagOrder {
 
     /// How many reports there are.
     pub fn len(&self) -> usize
-        requires { IsSound self.now }
-        ensures { result ≡ length (live self.now) }
+        requires { IsTagOrder self.now }
+        ensures { result ≡ length (live_reports self.now) }
     {
         self.links.len()
     }
 
     /// Makes room for one more arrival.
     fn make_room(&mut self)
-        requires sound { IsSound self.old }
-        requires room { length (live self.old) < self.old.capacity }
-        ensures sound { IsSound self.new }
-        ensures live { live self.new ≡ live self.old }
+        requires sound { IsTagOrder self.old }
+        requires room { length (live_reports self.old) < self.old.capacity }
+        ensures sound { IsTagOrder self.new }
+        ensures live { live_reports self.new ≡ live_reports self.old }
         ensures room { length self.new.arrivals.items < deque_capacity self.new.arrivals }
         ensures links { self.new.links ≡ self.old.links }
         ensures capacity { self.new.capacity ≡ self.old.capacity }
@@ -148,13 +148,14 @@ impl TagOrder {
 
     /// Adds a report that comes after all others, and answers its slot.
     pub fn add(&mut self, tag: u64, place: Position) -> usize
-        requires sound { IsSound self.old }
-        requires room { length (live self.old) < self.old.capacity }
-        requires later { AllBefore place (live self.old) }
-        ensures sound { IsSound self.new }
-        ensures live { live self.new ≡ record { tag = tag; slot = result; place = place } ∷ live self.old }
+        requires sound { IsTagOrder self.old }
+        requires room { length (live_reports self.old) < self.old.capacity }
+        requires later { AllBefore place (live_reports self.old) }
+        ensures sound { IsTagOrder self.new }
+        ensures live { live_reports self.new
+            ≡ record { tag = tag; slot = result; place = place } ∷ live_reports self.old }
         ensures slot { result < self.new.links.capacity }
-        ensures free { AllElsewhere result (live self.old) }
+        ensures free { AllElsewhere result (live_reports self.old) }
         ensures links { self.new.links.capacity ≡ self.old.links.capacity }
         ensures capacity { self.new.capacity ≡ self.old.capacity }
     {
@@ -169,9 +170,9 @@ impl TagOrder {
 
     /// Drops the arrivals at both ends that are gone.
     fn trim(&mut self)
-        requires { Falls self.old.arrivals.items }
-        ensures live { live self.new ≡ live self.old }
-        ensures falls { Falls self.new.arrivals.items }
+        requires { PlacesFall self.old.arrivals.items }
+        ensures live { live_reports self.new ≡ live_reports self.old }
+        ensures falls { PlacesFall self.new.arrivals.items }
         ensures starts { StartsLive (get self.new.links) self.new.arrivals.items }
         ensures ends { EndsLive (get self.new.links) self.new.arrivals.items }
         ensures arrivals { deque_capacity self.new.arrivals ≡ deque_capacity self.old.arrivals }
@@ -185,9 +186,9 @@ impl TagOrder {
 
     /// Drops the reports whose tags are at most this one.
     pub fn drop_to(&mut self, tag: u64)
-        requires { IsSound self.old }
-        ensures sound { IsSound self.new }
-        ensures live { live self.new ≡ arrivals_above tag (live self.old) }
+        requires { IsTagOrder self.old }
+        ensures sound { IsTagOrder self.new }
+        ensures live { live_reports self.new ≡ arrivals_above tag (live_reports self.old) }
         ensures links { self.new.links.capacity ≡ self.old.links.capacity }
         ensures capacity { self.new.capacity ≡ self.old.capacity }
     {
@@ -199,9 +200,9 @@ impl TagOrder {
 
     /// Drops the reports whose tags are at least this one.
     pub fn drop_from(&mut self, tag: u64)
-        requires { IsSound self.old }
-        ensures sound { IsSound self.new }
-        ensures live { live self.new ≡ arrivals_below tag (live self.old) }
+        requires { IsTagOrder self.old }
+        ensures sound { IsTagOrder self.new }
+        ensures live { live_reports self.new ≡ arrivals_below tag (live_reports self.old) }
         ensures links { self.new.links.capacity ≡ self.old.links.capacity }
         ensures capacity { self.new.capacity ≡ self.old.capacity }
     {
@@ -213,9 +214,9 @@ impl TagOrder {
 
     /// Drops the reports of a tag.
     pub fn drop_tag(&mut self, tag: u64)
-        requires { IsSound self.old }
-        ensures sound { IsSound self.new }
-        ensures live { live self.new ≡ arrivals_without tag (live self.old) }
+        requires { IsTagOrder self.old }
+        ensures sound { IsTagOrder self.new }
+        ensures live { live_reports self.new ≡ arrivals_without tag (live_reports self.old) }
         ensures links { self.new.links.capacity ≡ self.old.links.capacity }
         ensures capacity { self.new.capacity ≡ self.old.capacity }
     {
@@ -230,8 +231,8 @@ impl TagOrder {
 
     /// The place of the oldest report.
     pub fn oldest(&self) -> Option<Position>
-        requires { IsSound self.now }
-        ensures { IsOldest result (live self.now) }
+        requires { IsTagOrder self.now }
+        ensures { IsOldest result (live_reports self.now) }
     {
         match self.arrivals.back() {
             None => None,
@@ -241,8 +242,8 @@ impl TagOrder {
 
     /// The lowest tag, where it is below another.
     pub fn lowest_tag(&self, below: u64) -> Option<u64>
-        requires { IsSound self.now }
-        ensures { IsLowestTag below result (live self.now) }
+        requires { IsTagOrder self.now }
+        ensures { IsLowestTag below result (live_reports self.now) }
     {
         match self.newest.front() {
             None => None,

@@ -1,7 +1,7 @@
 //! The window of a hart.
 
 ghost use Rattle.std.specs.Prelude.{◌≡◌};
-ghost use Rattle.tag_window.specs.Slots.{earlier_of};
+ghost use Rattle.tag_window.specs.Slots.{earlier_position};
 
 use crate::counting::{self, Counting};
 use crate::newest;
@@ -26,33 +26,35 @@ pub struct Tags {
 
 impl Model for Tags {
     ghost use Rattle.std.specs.Prelude.{◌≡◌, ◌≤◌, ◌+◌, length, vec_capacity};
-    ghost use Rattle.tag_window.specs.Order.{IsSound, live};
+    ghost use Rattle.tag_window.specs.Order.{IsTagOrder, live_reports};
     ghost use Rattle.tag_window.specs.Slots.{AreIn, tagged, no_read, no_bypass, place_of_read, place_of_bypass};
     ghost use Rattle.tag_window.specs.Windows.{Window};
 
     ghost Value = { Window };
 
     ghost view = { λ t. record {
-      reads = tagged no_read t.read_items.items (live t.reads);
-      bypasses = tagged no_bypass t.bypass_items.items (live t.bypasses);
+      reads = tagged no_read t.read_items.items (live_reports t.reads);
+      bypasses = tagged no_bypass t.bypass_items.items (live_reports t.bypasses);
       capacity = t.capacity;
     } };
 
-    ghost invariant = { λ t. IsSound t.reads × IsSound t.bypasses
-        × AreIn place_of_read no_read t.read_items.items (live t.reads)
-        × AreIn place_of_bypass no_bypass t.bypass_items.items (live t.bypasses)
+    ghost invariant = { λ t. IsTagOrder t.reads × IsTagOrder t.bypasses
+        × AreIn place_of_read no_read t.read_items.items (live_reports t.reads)
+        × AreIn place_of_bypass no_bypass t.bypass_items.items (live_reports t.bypasses)
         × (t.reads.capacity ≡ t.capacity) × (t.bypasses.capacity ≡ t.capacity)
         × (t.reads.links.capacity ≤ vec_capacity t.read_items)
         × (t.bypasses.links.capacity ≤ vec_capacity t.bypass_items)
-        × (length (live t.reads) + length (live t.bypasses) ≤ t.capacity) };
+        × (length (live_reports t.reads) + length (live_reports t.bypasses) ≤ t.capacity) };
 }
 
 impl Tags {
     ghost use Rattle.std.specs.Prelude.{◌≡◌, ◌≢◌, ◌+◌, ◌<◌, ◌≤◌, ◌==◌, ℕ, List, [], ◌∷◌, None, Some, IfOk, slice_index};
     ghost use Rattle.std.specs.Prelude.{option_copied, is_some, true};
-    ghost use Rattle.tag_window.specs.Windows.{Window, live_count, took, after_one, below, above, without, newest_of};
-    ghost use Rattle.tag_window.specs.Windows.{IsLowest, counting, read_places, bypass_places, AllEarlier, IsOldestOf};
-    ghost use Rattle.tag_window.specs.Windows.{IfAll, IfMissing, IsPartOf, IsLowestMissing};
+    ghost use Rattle.tag_window.specs.Windows.{Window, live_count, after_one, below, above, without, newest_under};
+    ghost use Rattle.tandem_base.specs.Room.{took};
+    ghost use Rattle.tag_window.specs.Windows.{IsLowestGiven, read_counting, places_of_reads, places_of_bypasses};
+    ghost use Rattle.tag_window.specs.Windows.{AllEarlier, IsOldestOf};
+    ghost use Rattle.tag_window.specs.Windows.{IfAll, IfMissing, IsInPart, IsLowestMissing};
 
     /// No reports, with room for `capacity` of them. No other call takes memory.
     pub fn new(alloc: Global, capacity: u32) -> Result<Tags, AllocError>
@@ -89,8 +91,9 @@ impl Tags {
 
     /// A Read, where there is room for one more. It has to come after the live Reads.
     pub fn read(&mut self, tag: u64, piece: &Piece, seen: &Capture) -> Took
-        requires later { AllEarlier seen.now.place (read_places self.old.reads) }
-        ensures took { result ≡ took self.old }
+        // Messages are numbered upward, and what a report saw has its own place.
+        requires later { AllEarlier seen.now.place (places_of_reads self.old.reads) }
+        ensures took { result ≡ took (live_count self.old) self.old.capacity }
         ensures reads { self.new.reads ≡ after_one result (record {
           tag = tag;
           item = record { piece = piece.now; seen = seen.now };
@@ -112,8 +115,9 @@ impl Tags {
 
     /// An early Bypass, where there is room for one more. It has to come after the others.
     pub fn early(&mut self, tag: u64, piece: &Piece, seen: &StoreCapture) -> Took
-        requires later { AllEarlier seen.now.seen.place (bypass_places self.old.bypasses) }
-        ensures took { result ≡ took self.old }
+        // As for a Read.
+        requires later { AllEarlier seen.now.seen.place (places_of_bypasses self.old.bypasses) }
+        ensures took { result ≡ took (live_count self.old) self.old.capacity }
         ensures bypasses { self.new.bypasses ≡ after_one result (record {
           tag = tag;
           item = record { piece = piece.now; seen = seen.now };
@@ -135,7 +139,7 @@ impl Tags {
 
     /// The early Bypass of a tag.
     pub fn early_of(&self, tag: u64) -> Option<&Early>
-        ensures { option_copied result ≡ newest_of tag self.now.bypasses }
+        ensures { option_copied result ≡ newest_under tag self.now.bypasses }
     {
         match newest::slot_of(&self.bypasses.newest, tag) {
             None => None,
@@ -145,7 +149,7 @@ impl Tags {
 
     /// The lowest tag below another that has an early Bypass.
     pub fn stray(&self, below: u64) -> Option<u64>
-        ensures { IsLowest below result self.now.bypasses }
+        ensures { IsLowestGiven below result self.now.bypasses }
     {
         self.bypasses.lowest_tag(below)
     }
@@ -172,7 +176,7 @@ impl Tags {
     /// The Read that counts for the byte at an address of a load with this tag: the latest live Read of
     /// the tag that has the byte.
     pub fn counting_at(&self, tag: u64, addr: u64) -> Option<&Read>
-        ensures { option_copied result ≡ counting tag addr self.now.reads }
+        ensures { option_copied result ≡ read_counting tag addr self.now.reads }
     {
         let head = newest::slot_of(&self.reads.newest, tag);
         match counting::find(&self.reads.links, &self.read_items, head, addr) {
@@ -184,7 +188,7 @@ impl Tags {
     /// The parts of a load, by the Reads that count for its bytes, or the first byte that has none.
     pub fn counting(&self, tag: u64, extent: &Extent) -> Counting
         ensures all { IfAll result (λ parts. (k : ℕ) → k < extent.now.len →
-            IsPartOf tag extent.now.addr self.now.reads k (slice_index parts k)) }
+            IsInPart tag extent.now.addr self.now.reads k (slice_index parts k)) }
         ensures missing { IfMissing result (λ at. IsLowestMissing tag extent.now self.now.reads at) }
     {
         let head = newest::slot_of(&self.reads.newest, tag);
@@ -211,7 +215,7 @@ impl Tags {
 
 /// The earlier of two places, where there are two.
 fn earlier(a: Option<Position>, b: Option<Position>) -> Option<Position>
-    ensures { result ≡ earlier_of a b }
+    ensures { result ≡ earlier_position a b }
 {
     match (a, b) {
         (None, _) => b,

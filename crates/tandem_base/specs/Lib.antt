@@ -1,6 +1,7 @@
 pub mod Bytes
 pub mod Fields
 pub mod Puts
+pub mod Room
 pub mod Texts
 pub mod FirstFault
 pub mod Extents

@@ -14,8 +14,9 @@ use Rattle.trace_gen.specs.declared.rounds.Step.TheVariants as step
 use Rattle.trace_gen.specs.declared.rounds.Progress.{Progress}
 use Rattle.trace_gen.specs.declared.saying.Saying.{Saying}
 use Rattle.trace_gen.specs.Program.{counter_addr, own_addr, pc_of, word_of}
-use Rattle.trace_gen.specs.Rounds.{bypasses, bytes_of, inserts, low_half_of, reads, retires, sayings_at, tag_of}
-use Rattle.trace_gen.specs.Rounds.{writes, writes_front}
+use Rattle.trace_gen.specs.Rounds.{says_bypass, bytes_of_number, says_insert, low_half_of, says_read, says_retire}
+use Rattle.trace_gen.specs.Rounds.{sayings_at, tag_of}
+use Rattle.trace_gen.specs.Rounds.{rd_with, says_write}
 use Rattle.trace_gen.specs.Making.{ends, opens, pokes}
 
 -- what hart h says has a frame at each time
@@ -25,7 +26,7 @@ pub record IsSaid (h : ℕ) (s : Saying) : Type 0 where
   pub body : BodyInRange s.body
 
 -- the bytes of a number are bytes
-pub are_bytes : (value : ℕ) → AreBytes (bytes_of value)
+pub are_bytes : (value : ℕ) → AreBytes (bytes_of_number value)
 are_bytes value zero = mod-lt _ (lit< tt)
 are_bytes value (suc zero) = mod-lt _ (lit< tt)
 are_bytes value (suc (suc zero)) = mod-lt _ (lit< tt)
@@ -50,7 +51,7 @@ zero_at (suc n) zero = refl
 zero_at (suc n) (suc k) = zero_at n k
 
 -- those of a line with a number at its front
-pub line_are_bytes : (value : ℕ) → AreBytes (bytes_of value ++ replicate 56 0)
+pub line_are_bytes : (value : ℕ) → AreBytes (bytes_of_number value ++ replicate 56 0)
 line_are_bytes value zero = mod-lt _ (lit< tt)
 line_are_bytes value (suc zero) = mod-lt _ (lit< tt)
 line_are_bytes value (suc (suc zero)) = mod-lt _ (lit< tt)
@@ -62,7 +63,8 @@ line_are_bytes value (suc (suc (suc (suc (suc (suc (suc zero))))))) = mod-lt _ (
 line_are_bytes value (suc (suc (suc (suc (suc (suc (suc (suc k)))))))) = rw (zero_at 56 k) (lit< tt)
 
 -- the bytes behind the number are 0
-pub rest_is_zero : (value k : ℕ) → k < 64 → bit_at 0xff k ≡ 0 → slice_index (bytes_of value ++ replicate 56 0) k ≡ 0
+pub rest_is_zero : (value k : ℕ) → k < 64 → bit_at 0xff k ≡ 0
+    → slice_index (bytes_of_number value ++ replicate 56 0) k ≡ 0
 rest_is_zero value zero small outside = absurd (omega (arith, outside))
 rest_is_zero value (suc zero) small outside = absurd (omega (arith, outside))
 rest_is_zero value (suc (suc zero)) small outside = absurd (omega (arith, outside))
@@ -89,13 +91,13 @@ tag_bound round k r k7 = omega (arith, r, k7)
 -- an instruction reads, inserts or bypasses
 module _ (h round k addr : ℕ) (bytes : List ℕ) (r : round < 2 ^ 32) (k7 : k < 7) (a : addr < 2 ^ 64)
     (some : 1 ≤ length bytes) (most : length bytes ≤ 8) (are : AreBytes bytes) where
-  pub read_said : IsSaid h (reads round k addr bytes)
+  pub read_said : IsSaid h (says_read round k addr bytes)
   read_said = record { fits = λ _. (some, most); tag = tag_bound round k r k7; body = (a, are) }
 
-  pub insert_said : IsSaid h (inserts round k addr bytes)
+  pub insert_said : IsSaid h (says_insert round k addr bytes)
   insert_said = record { fits = λ _. (some, most); tag = tag_bound round k r k7; body = (a, are) }
 
-  pub bypass_said : IsSaid h (bypasses round k addr bytes)
+  pub bypass_said : IsSaid h (says_bypass round k addr bytes)
   bypass_said = record { fits = λ _. (some, most); tag = tag_bound round k r k7; body = (a, are) }
 
 -- the addresses of the program
@@ -110,7 +112,7 @@ pub own_line : (h : ℕ) → own_addr h % 64 ≡ 0
 own_line h = omega arith
 
 -- an instruction retires without a register
-pub retire_said : (h round k : ℕ) → round < 2 ^ 32 → k < 7 → word_of k < 2 ^ 32 → IsSaid h (retires round k None)
+pub retire_said : (h round k : ℕ) → round < 2 ^ 32 → k < 7 → word_of k < 2 ^ 32 → IsSaid h (says_retire round k None)
 retire_said h round k r k7 w = record {
   fits = λ _. (tt, lit≤ tt);
   tag = tag_bound round k r k7;
@@ -119,7 +121,7 @@ retire_said h round k r k7 w = record {
 
 -- an instruction retires with a register
 pub write_said : (h round k number value : ℕ) → round < 2 ^ 32 → k < 7 → word_of k < 2 ^ 32
-    → 1 ≤ number → number ≤ 31 → value < 2 ^ 64 → IsSaid h (retires round k (writes number value))
+    → 1 ≤ number → number ≤ 31 → value < 2 ^ 64 → IsSaid h (says_retire round k (rd_with number value))
 write_said h round k number value r k7 w low high v = record {
   fits = λ _. ((low, high), lit≤ tt);
   tag = tag_bound round k r k7;
@@ -134,7 +136,7 @@ write_said h round k number value r k7 w low high v = record {
 }
 
 -- a Write
-pub front_said : (h value : ℕ) → h < 256 → IsSaid h (writes_front (own_addr h) value)
+pub front_said : (h value : ℕ) → h < 256 → IsSaid h (says_write (own_addr h) value)
 front_said h value h8 = record {
   fits = λ _. (refl, (own_line h, rest_is_zero value));
   tag = lit< tt;
@@ -152,28 +154,28 @@ module _ (h c : ℕ) (p : Progress) (h8 : h < 256) (r : p.round < 2 ^ 32) (few :
   own : own_addr h < 2 ^ 64
   own = omega (arith, h8)
 
-  own_read : (k value : ℕ) → k < 7 → IsSaid h (reads p.round k (own_addr h) (bytes_of value))
+  own_read : (k value : ℕ) → k < 7 → IsSaid h (says_read p.round k (own_addr h) (bytes_of_number value))
   own_read k value k7 =
-      read_said h p.round k (own_addr h) (bytes_of value) r k7 own (lit≤ tt) (lit≤ tt) (are_bytes value)
+      read_said h p.round k (own_addr h) (bytes_of_number value) r k7 own (lit≤ tt) (lit≤ tt) (are_bytes value)
 
-  shared_read : (k : ℕ) → k < 7 → IsSaid h (reads p.round k counter_addr (bytes_of c))
+  shared_read : (k : ℕ) → k < 7 → IsSaid h (says_read p.round k counter_addr (bytes_of_number c))
   shared_read k k7 =
-      read_said h p.round k counter_addr (bytes_of c) r k7 (lit< tt) (lit≤ tt) (lit≤ tt) (are_bytes c)
+      read_said h p.round k counter_addr (bytes_of_number c) r k7 (lit< tt) (lit≤ tt) (lit≤ tt) (are_bytes c)
 
-  half_read : IsSaid h (reads p.round 2 (own_addr h) (low_half_of p.taken))
+  half_read : IsSaid h (says_read p.round 2 (own_addr h) (low_half_of p.taken))
   half_read =
       let are = half_are_bytes p.taken in
       read_said h p.round 2 (own_addr h) (low_half_of p.taken) r (lit< tt) own (lit≤ tt) (lit≤ tt) are
 
-  own_insert : IsSaid h (inserts p.round 1 (own_addr h) (bytes_of p.taken))
+  own_insert : IsSaid h (says_insert p.round 1 (own_addr h) (bytes_of_number p.taken))
   own_insert =
       let are = are_bytes p.taken in
-      insert_said h p.round 1 (own_addr h) (bytes_of p.taken) r (lit< tt) own (lit≤ tt) (lit≤ tt) are
+      insert_said h p.round 1 (own_addr h) (bytes_of_number p.taken) r (lit< tt) own (lit≤ tt) (lit≤ tt) are
 
-  shared_bypass : IsSaid h (bypasses p.round 3 counter_addr (bytes_of (c + 1)))
+  shared_bypass : IsSaid h (says_bypass p.round 3 counter_addr (bytes_of_number (c + 1)))
   shared_bypass =
       let are = are_bytes (c + 1) in
-      bypass_said h p.round 3 counter_addr (bytes_of (c + 1)) r (lit< tt) (lit< tt) (lit≤ tt) (lit≤ tt) are
+      bypass_said h p.round 3 counter_addr (bytes_of_number (c + 1)) r (lit< tt) (lit< tt) (lit≤ tt) (lit≤ tt) are
 
   pub are_said : (s : Step) → AreSaid h (sayings_at s h c p)
   are_said step.ReadAhead = (own_read 5 p.written (lit< tt), tt)

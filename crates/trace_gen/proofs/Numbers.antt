@@ -11,7 +11,7 @@ use Rattle.trace_gen.specs.declared.rounds.Step.{Step}
 use Rattle.trace_gen.specs.declared.rounds.Step.TheVariants as step
 use Rattle.trace_gen.specs.declared.rounds.Progress.{Progress}
 use Rattle.trace_gen.specs.declared.saying.Saying.{Saying}
-use Rattle.trace_gen.specs.Rounds.{moved_by, sayings_at, at_start}
+use Rattle.trace_gen.specs.Rounds.{moved_by, sayings_at, first_progress}
 use Rattle.trace_gen.specs.Schedule.{Moment, said, all_said, stepped}
 use Rattle.trace_gen.specs.Making.{before_turns, opened, made_messages, moment_of, registers_of, ends}
 use Rattle.trace_gen.proofs.Turns.{IsDone, at_turn, each_turn, done_at}
@@ -69,17 +69,18 @@ abbrev pub HasSaid : ℕ → Moment → Type 0
 HasSaid harts m = length m.messages ≡ 1 + 3 * harts + sum_by messages_of m.harts
 
 pub said_at_first : (seed harts : ℕ) → HasSaid harts (before_turns seed harts)
-said_at_first seed harts = length_opened harts harts ∙ rw (sum_by-replicate messages_of harts at_start) (omega arith)
+said_at_first seed harts = length_opened harts harts
+    ∙ rw (sum_by-replicate messages_of harts first_progress) (omega arith)
 
 pub said_at_step : (harts h : ℕ) (m : Moment) → h < length m.harts → HasSaid harts m → HasSaid harts (stepped h m)
 said_at_step harts h m small has =
-    let p = get_or m.harts h at_start in
+    let p = get_or m.harts h first_progress in
     omega (
       arith,
       has,
       length_said h m.messages (sayings_at p.step h m.counter p),
       adds_said p.step h m.counter p,
-      sum_by-set messages_of m.harts h (moved_by p.step m.counter p) at_start small,
+      sum_by-set messages_of m.harts h (moved_by p.step m.counter p) first_progress small,
     )
 
 -- each hart that is done has said fifteen messages a round

@@ -12,7 +12,7 @@ use Rattle.trace_gen.specs.declared.rounds.Step.TheVariants as step
 use Rattle.trace_gen.specs.declared.rounds.Progress.{Progress}
 use Rattle.trace_gen.specs.declared.saying.Saying.{Saying}
 use Rattle.trace_gen.specs.Program.{counter_addr, own_addr}
-use Rattle.trace_gen.specs.Rounds.{moved_by, counted_by, sayings_at, at_start}
+use Rattle.trace_gen.specs.Rounds.{moved_by, counted_by, sayings_at, first_progress}
 use Rattle.trace_gen.specs.Schedule.{Moment, said, all_said, stepped}
 use Rattle.trace_gen.specs.Making.{CanMake, before_turns, opened, opens, made_messages, moment_of, registers_of, ends}
 use Rattle.trace_gen.proofs.Turns.{IsAt, IsChosen, all_within, at_turn, each_turn, step_at, steps_of}
@@ -108,7 +108,7 @@ sound_first : (seed harts : ℕ) → 1 ≤ harts → harts ≤ 16 → IsSound ha
 sound_first seed harts low high = record {
   spelled = opened_spells harts harts low high high;
   time = omega (arith, length_opened harts harts);
-  below = All-replicate (IsBelow 0) harts at_start (record { taken = omega arith; added = omega arith });
+  below = All-replicate (IsBelow 0) harts first_progress (record { taken = omega arith; added = omega arith });
 }
 
 -- how many turns there are at most
@@ -120,10 +120,10 @@ at_bound harts rounds n m at' =
 sound_step : (harts rounds n h : ℕ) (m : Moment) → harts ≤ 16 → harts * rounds ≤ 100000 → rounds ≤ 100000
     → IsAt harts rounds n m → IsChosen rounds h m → IsSound harts m → IsSound harts (stepped h m)
 sound_step harts rounds n h m high room few at' chosen sound =
-    let p = get_or m.harts h at_start in
+    let p = get_or m.harts h first_progress in
     let after = step_at harts rounds n m h at' chosen.hart chosen.left in
     let most = at_bound harts rounds n m at' in
-    let below = sound.below h at_start chosen.hart in
+    let below = sound.below h first_progress chosen.hart in
     let up = counts_up p.step m.counter in
     let said = length_said h m.messages (sayings_at p.step h m.counter p) in
     let two = few_said p.step h m.counter p in

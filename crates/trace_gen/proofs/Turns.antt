@@ -11,7 +11,7 @@ use Rattle.std.proofs.Math.Nat.{mul-suc, mul_right_comm, mod-lt}
 use Rattle.trace_gen.specs.declared.rounds.Step.{Step}
 use Rattle.trace_gen.specs.declared.rounds.Step.TheVariants as step
 use Rattle.trace_gen.specs.declared.rounds.Progress.{Progress}
-use Rattle.trace_gen.specs.Rounds.{moved_by, counted_by, at_start}
+use Rattle.trace_gen.specs.Rounds.{moved_by, counted_by, first_progress}
 use Rattle.trace_gen.specs.Schedule.{Moment, after_turns, turned, stepped, chosen, harts_left, next_random}
 use Rattle.trace_gen.specs.Making.{before_turns}
 
@@ -89,7 +89,7 @@ pub record IsLeft (rounds h hart : ℕ) (ps : List Progress) : Type 0 where
   pub index : ℕ
   pub is : hart ≡ h + index
   pub bound : index < length ps
-  pub left : (get_or ps index at_start).round < rounds
+  pub left : (get_or ps index first_progress).round < rounds
 
 left_later : (rounds h hart : ℕ) (p : Progress) (ps : List Progress) → IsLeft rounds (h + 1) hart ps
     → IsLeft rounds h hart (p ∷ ps)
@@ -170,9 +170,9 @@ pub record IsAt (harts rounds n : ℕ) (m : Moment) : Type 0 where
 
 pub at_first : (seed harts rounds : ℕ) → IsAt harts rounds 0 (before_turns seed harts)
 at_first seed harts rounds = record {
-  len = length-replicate harts at_start;
-  sum = sum_by-replicate steps_of harts at_start ∙ omega arith;
-  within = All-replicate (IsWithin rounds) harts at_start (omega arith);
+  len = length-replicate harts first_progress;
+  sum = sum_by-replicate steps_of harts first_progress ∙ omega arith;
+  within = All-replicate (IsWithin rounds) harts first_progress (omega arith);
   counter = omega arith;
 }
 
@@ -188,12 +188,12 @@ left_at harts rounds n m at' more = elim (some_left rounds 0 m.harts at'.within)
 
 -- the step of a hart that has steps left is one more
 pub step_at : (harts rounds n : ℕ) (m : Moment) (h : ℕ) → IsAt harts rounds n m
-    → h < length m.harts → (get_or m.harts h at_start).round < rounds → IsAt harts rounds (suc n) (stepped h m)
+    → h < length m.harts → (get_or m.harts h first_progress).round < rounds → IsAt harts rounds (suc n) (stepped h m)
 step_at harts rounds n m h at' small under =
-    let p = get_or m.harts h at_start in
+    let p = get_or m.harts h first_progress in
     let moved = moved_by p.step m.counter p in
     let more = one_more p.step m.counter p in
-    let set = sum_by-set steps_of m.harts h moved at_start small in
+    let set = sum_by-set steps_of m.harts h moved first_progress small in
     record {
       len = length-set m.harts h moved ∙ at'.len;
       sum = omega (arith, set, more, at'.sum);
@@ -204,7 +204,7 @@ step_at harts rounds n m h at' small under =
 -- the hart that a turn chooses has steps left
 pub record IsChosen (rounds h : ℕ) (m : Moment) : Type 0 where
   pub hart : h < length m.harts
-  pub left : (get_or m.harts h at_start).round < rounds
+  pub left : (get_or m.harts h first_progress).round < rounds
 
 pub chosen_is : (harts rounds n : ℕ) (m : Moment) → IsAt harts rounds n m → n < 13 * harts * rounds
     → IsChosen rounds (chosen (next_random m.random) (harts_left rounds 0 m.harts)) m
@@ -215,7 +215,7 @@ chosen_is harts rounds n m at' more =
     let found = left_is rounds 0 m.harts (random / 2 ^ 33 % length left) (mod-lt (random / 2 ^ 33) some) in
     let is : chosen random left ≡ found.index = omega (arith, found.is) in
     let Small : ℕ → Type 0 = λ h. h < length m.harts in
-    let Under : ℕ → Type 0 = λ h. (get_or m.harts h at_start).round < rounds in
+    let Under : ℕ → Type 0 = λ h. (get_or m.harts h first_progress).round < rounds in
     record { hart = subst Small (sym is) found.bound; left = subst Under (sym is) found.left }
 
 -- and so is a turn

@@ -5,7 +5,7 @@ use Rattle.msg_frames.specs.declared.message.Body.TheVariants as body
 use Rattle.msg_frames.specs.declared.message.Message.{Message}
 use Rattle.trace_gen.specs.Program.{counter_addr, own_addr}
 use Rattle.trace_gen.specs.declared.saying.Saying.{Saying}
-use Rattle.trace_gen.specs.Rounds.{at_start}
+use Rattle.trace_gen.specs.Rounds.{first_progress}
 use Rattle.trace_gen.specs.Schedule.{Moment, said, all_said, after_turns}
 
 -- there is a stream of so many harts, each with so many rounds
@@ -41,7 +41,7 @@ abbrev pub before_turns : ℕ → ℕ → Moment
 before_turns seed harts = record {
   random = seed;
   counter = 0;
-  harts = replicate harts at_start;
+  harts = replicate harts first_progress;
   messages = opened harts harts;
 }
 

@@ -15,8 +15,8 @@ abbrev pub tag_of : ℕ → ℕ → ℕ
 tag_of round k = 7 * round + k + 1
 
 -- an instruction of the program retires: it goes on to the next one, and after the last to the first
-abbrev pub retires : ℕ → ℕ → Option RdValue → Saying
-retires round k rd = record {
+abbrev pub says_retire : ℕ → ℕ → Option RdValue → Saying
+says_retire round k rd = record {
   tag = tag_of round k;
   body = body.Retire (record {
     pc = pc_of k;
@@ -29,33 +29,33 @@ retires round k rd = record {
 }
 
 -- a register is written
-abbrev pub writes : ℕ → ℕ → Option RdValue
-writes number value = Some (record { number = number; value = value })
+abbrev pub rd_with : ℕ → ℕ → Option RdValue
+rd_with number value = Some (record { number = number; value = value })
 
 -- an instruction of the program reads these bytes
-abbrev pub reads : ℕ → ℕ → ℕ → List ℕ → Saying
-reads round k addr bytes =
+abbrev pub says_read : ℕ → ℕ → ℕ → List ℕ → Saying
+says_read round k addr bytes =
     record { tag = tag_of round k; body = body.Read (record { addr = addr; bytes = bytes }) }
 
 -- it puts these bytes into the merge buffer
-abbrev pub inserts : ℕ → ℕ → ℕ → List ℕ → Saying
-inserts round k addr bytes =
+abbrev pub says_insert : ℕ → ℕ → ℕ → List ℕ → Saying
+says_insert round k addr bytes =
     record { tag = tag_of round k; body = body.Insert (record { addr = addr; bytes = bytes }) }
 
 -- it makes these bytes visible to all
-abbrev pub bypasses : ℕ → ℕ → ℕ → List ℕ → Saying
-bypasses round k addr bytes =
+abbrev pub says_bypass : ℕ → ℕ → ℕ → List ℕ → Saying
+says_bypass round k addr bytes =
     record { tag = tag_of round k; body = body.Bypass (record { addr = addr; bytes = bytes }) }
 
 -- the eight bytes of a number
-abbrev pub bytes_of : ℕ → List ℕ
-bytes_of value = to_le_bytes w64 value
+abbrev pub bytes_of_number : ℕ → List ℕ
+bytes_of_number value = to_le_bytes w64 value
 
 -- a number becomes visible to all at the front of a line
-abbrev pub writes_front : ℕ → ℕ → Saying
-writes_front line value = record {
+abbrev pub says_write : ℕ → ℕ → Saying
+says_write line value = record {
   tag = 0;
-  body = body.Write (record { line = line; mask = 0xff; bytes = bytes_of value ++ replicate 56 0 });
+  body = body.Write (record { line = line; mask = 0xff; bytes = bytes_of_number value ++ replicate 56 0 });
 }
 
 -- the low half of the bytes of a number
@@ -65,21 +65,23 @@ low_half_of value = take 4 (to_le_bytes w64 value)
 -- The table: what hart h says at each step, where the shared counter is c. In a round, `taken` is what its first load
 -- read, `added` is what its amoadd read, and `written` is the hart's own number as the last Write left it.
 abbrev pub sayings_at : Step → ℕ → ℕ → Progress → List Saying
-sayings_at step.ReadAhead h c p = reads p.round 5 (own_addr h) (bytes_of p.written) ∷ []
-sayings_at step.ReadCounter h c p = reads p.round 0 counter_addr (bytes_of c) ∷ []
-sayings_at step.RetireRead h c p = retires p.round 0 (writes 5 p.taken) ∷ []
-sayings_at step.RetireStore h c p = retires p.round 1 None ∷ []
+sayings_at step.ReadAhead h c p = says_read p.round 5 (own_addr h) (bytes_of_number p.written) ∷ []
+sayings_at step.ReadCounter h c p = says_read p.round 0 counter_addr (bytes_of_number c) ∷ []
+sayings_at step.RetireRead h c p = says_retire p.round 0 (rd_with 5 p.taken) ∷ []
+sayings_at step.RetireStore h c p = says_retire p.round 1 None ∷ []
 sayings_at step.ForwardStore h c p =
-    reads p.round 2 (own_addr h) (low_half_of p.taken) ∷ retires p.round 2 (writes 9 (sign_extended 32 p.taken)) ∷ []
-sayings_at step.InsertStore h c p = inserts p.round 1 (own_addr h) (bytes_of p.taken) ∷ []
-sayings_at step.WriteStore h c p = writes_front (own_addr h) p.taken ∷ []
+    says_read p.round 2 (own_addr h) (low_half_of p.taken)
+    ∷ says_retire p.round 2 (rd_with 9 (sign_extended 32 p.taken)) ∷ []
+sayings_at step.InsertStore h c p = says_insert p.round 1 (own_addr h) (bytes_of_number p.taken) ∷ []
+sayings_at step.WriteStore h c p = says_write (own_addr h) p.taken ∷ []
 sayings_at step.AddOne h c p =
-    reads p.round 3 counter_addr (bytes_of c) ∷ bypasses p.round 3 counter_addr (bytes_of (c + 1)) ∷ []
-sayings_at step.RetireAdd h c p = retires p.round 3 (writes 6 p.added) ∷ []
-sayings_at step.RetireFence h c p = retires p.round 4 None ∷ []
-sayings_at step.ReadAgain h c p = reads p.round 5 (own_addr h) (bytes_of p.taken) ∷ []
-sayings_at step.RetireReadAgain h c p = retires p.round 5 (writes 8 p.taken) ∷ []
-sayings_at step.RetireJump h c p = retires p.round 6 None ∷ []
+    says_read p.round 3 counter_addr (bytes_of_number c)
+    ∷ says_bypass p.round 3 counter_addr (bytes_of_number (c + 1)) ∷ []
+sayings_at step.RetireAdd h c p = says_retire p.round 3 (rd_with 6 p.added) ∷ []
+sayings_at step.RetireFence h c p = says_retire p.round 4 None ∷ []
+sayings_at step.ReadAgain h c p = says_read p.round 5 (own_addr h) (bytes_of_number p.taken) ∷ []
+sayings_at step.RetireReadAgain h c p = says_retire p.round 5 (rd_with 8 p.taken) ∷ []
+sayings_at step.RetireJump h c p = says_retire p.round 6 None ∷ []
 
 -- a hart after each step
 abbrev pub moved_by : Step → ℕ → Progress → Progress
@@ -114,5 +116,5 @@ counted_by step.RetireReadAgain c = c
 counted_by step.RetireJump c = c
 
 -- a hart before its first step
-abbrev pub at_start : Progress
-at_start = record { round = 0; step = step.ReadAhead; taken = 0; added = 0; written = 0 }
+abbrev pub first_progress : Progress
+first_progress = record { round = 0; step = step.ReadAhead; taken = 0; added = 0; written = 0 }

@@ -4,7 +4,7 @@ use Rattle.std.specs.Prelude.{slice_index, slice_index_or, slice_set}
 use Rattle.msg_frames.specs.declared.message.Message.{Message}
 use Rattle.trace_gen.specs.declared.rounds.Progress.{Progress}
 use Rattle.trace_gen.specs.declared.saying.Saying.{Saying}
-use Rattle.trace_gen.specs.Rounds.{sayings_at, moved_by, counted_by, at_start}
+use Rattle.trace_gen.specs.Rounds.{sayings_at, moved_by, counted_by, first_progress}
 
 -- hart h says something, at the time that is the number of messages so far
 abbrev pub said : ℕ → List Message → Saying → List Message
@@ -40,7 +40,7 @@ chosen random left = slice_index left (random / 2 ^ 33 % length left)
 -- the moment after a hart's next step
 abbrev pub stepped : ℕ → Moment → Moment
 stepped h m =
-    let p = slice_index_or m.harts h at_start in
+    let p = slice_index_or m.harts h first_progress in
     record m {
       counter = counted_by p.step m.counter;
       harts = slice_set m.harts h (moved_by p.step m.counter p);

@@ -60,7 +60,8 @@ pub fn made_image(alloc: Global) -> Result<Image, AllocError>
     let bytes = program_bytes(alloc)?;
     match Image::flat(alloc, &bytes, PROGRAM_BASE, &[ram]) {
         Ok(image) => Ok(image),
-        Err(_refused) => Err(AllocError),
+        Err(ImageFault::Memory) => Err(AllocError),
+        Err(_) => unreachable!(),
     }
 }
 

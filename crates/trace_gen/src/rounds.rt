@@ -1,7 +1,7 @@
 //! How far a hart is.
 
 ghost use Rattle.std.specs.Prelude.{◌≡◌, ◌<◌, ◌^◌, ◌+◌};
-ghost use Rattle.trace_gen.specs.Rounds.{at_start, counted_by, moved_by};
+ghost use Rattle.trace_gen.specs.Rounds.{first_progress, counted_by, moved_by};
 
 /// The steps of a round.
 #[derive(Clone, Copy, Debug, PartialEq, Eq)]

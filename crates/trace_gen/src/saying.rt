@@ -2,7 +2,7 @@
 
 ghost use Rattle.std.specs.Prelude.{◌≡◌, ◌<◌, ◌≤◌, ◌^◌, length, None};
 ghost use Rattle.trace_gen.specs.Making.{ends, opens, pokes};
-ghost use Rattle.trace_gen.specs.Rounds.{bypasses, inserts, reads, retires, tag_of, writes, writes_front};
+ghost use Rattle.trace_gen.specs.Rounds.{says_bypass, says_insert, says_read, says_retire, tag_of, rd_with, says_write};
 
 use super::image::{pc_of, word_of};
 use msg_frames::{Body, CsrList, LineWrite, OpenInfo, Piece, Poke, RdValue, Retire, Target};
@@ -65,7 +65,7 @@ fn tag_of(round: u32, k: u8) -> u64
 /// Instruction `k` of the program retires.
 pub fn retires(round: u32, k: u8, rd: Option<RdValue>) -> Saying
     requires { k < 7 }
-    ensures { result ≡ retires round k rd }
+    ensures { result ≡ says_retire round k rd }
 {
     let retire = Retire {
         pc: pc_of(k),
@@ -83,14 +83,14 @@ pub fn retires(round: u32, k: u8, rd: Option<RdValue>) -> Saying
 
 /// A register is written.
 pub fn writes(number: u8, value: u64) -> Option<RdValue>
-    ensures { result ≡ writes number value }
+    ensures { result ≡ rd_with number value }
 {
     Some(RdValue { number, value })
 }
 
 /// Instruction `k` of the program reads bytes.
 pub fn reads(round: u32, k: u8, addr: u64, bytes: Bytes8) -> Saying
-    ensures { result ≡ reads round k addr bytes }
+    ensures { result ≡ says_read round k addr bytes }
 {
     Saying {
         tag: tag_of(round, k),
@@ -100,7 +100,7 @@ pub fn reads(round: u32, k: u8, addr: u64, bytes: Bytes8) -> Saying
 
 /// It puts bytes into the merge buffer.
 pub fn inserts(round: u32, k: u8, addr: u64, bytes: Bytes8) -> Saying
-    ensures { result ≡ inserts round k addr bytes }
+    ensures { result ≡ says_insert round k addr bytes }
 {
     Saying {
         tag: tag_of(round, k),
@@ -110,7 +110,7 @@ pub fn inserts(round: u32, k: u8, addr: u64, bytes: Bytes8) -> Saying
 
 /// It makes bytes visible to all.
 pub fn bypasses(round: u32, k: u8, addr: u64, bytes: Bytes8) -> Saying
-    ensures { result ≡ bypasses round k addr bytes }
+    ensures { result ≡ says_bypass round k addr bytes }
 {
     Saying {
         tag: tag_of(round, k),
@@ -120,7 +120,7 @@ pub fn bypasses(round: u32, k: u8, addr: u64, bytes: Bytes8) -> Saying
 
 /// The bytes of a number become visible at the front of a line.
 pub fn writes_front(line: u64, value: u64) -> Saying
-    ensures { result ≡ writes_front line value }
+    ensures { result ≡ says_write line value }
 {
     let mut bytes = [0; 64];
     bytes[..8].copy_from_slice(&value.to_le_bytes());

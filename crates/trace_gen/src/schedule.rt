@@ -2,7 +2,7 @@
 
 ghost use Rattle.std.specs.Prelude.{◌≡◌, ◌<◌, ◌≤◌, ◌+◌, ◌*◌, ◌^◌, length, slice_index, slice_index_or, List};
 ghost use Rattle.std.specs.Int.{w64, to_le_bytes};
-ghost use Rattle.trace_gen.specs.Rounds.{at_start, low_half_of};
+ghost use Rattle.trace_gen.specs.Rounds.{first_progress, low_half_of};
 ghost use Rattle.trace_gen.specs.Schedule.{harts_left, next_random};
 
 use super::image::{COUNTER_ADDR, own_addr};
@@ -41,7 +41,7 @@ impl Model for Run {
 impl Run {
     ghost use Rattle.std.specs.Prelude.{◌≡◌, ◌<◌, ◌≤◌, ◌+◌, ◌^◌, length, OnOk, IfOk, slice_index_or, reverse};
     ghost use Rattle.trace_gen.specs.declared.rounds.Progress.{Progress};
-    ghost use Rattle.trace_gen.specs.Rounds.{at_start, sayings_at};
+    ghost use Rattle.trace_gen.specs.Rounds.{first_progress, sayings_at};
     ghost use Rattle.trace_gen.specs.Schedule.{said, all_said, harts_left, stepped, turned};
     ghost use Rattle.trace_gen.specs.Making.{before_turns, ends, opened, registers_of};
 
@@ -99,7 +99,7 @@ impl Run {
     // The next step of a hart.
     fn step(&mut self, hart: u8) -> Result<(), AllocError>
         requires hart { hart < length self.old.harts }
-        requires round { (slice_index_or self.old.harts hart at_start).round + 1 < 2 ^ 32 }
+        requires round { (slice_index_or self.old.harts hart first_progress).round + 1 < 2 ^ 32 }
         requires counter { self.old.counter + 1 < 2 ^ 64 }
         ensures { OnOk result (self.new ≡ stepped hart self.old) }
     {
@@ -202,7 +202,7 @@ fn find_left(harts: &[Progress], rounds: u32, place: usize) -> usize
     requires { place < length (harts_left rounds 0 harts.now) }
     ensures value { result ≡ slice_index (harts_left rounds 0 harts.now) place }
     ensures bound { result < length harts.now }
-    ensures left { (slice_index_or harts.now result at_start).round < rounds }
+    ensures left { (slice_index_or harts.now result first_progress).round < rounds }
 {
     let mut before = place;
     for (hart, progress) in harts.iter().enumerate() {

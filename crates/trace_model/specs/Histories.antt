@@ -11,11 +11,11 @@ entry_with insn memory = record { insn = insn; memory = memory }
 
 -- the instructions are those of these entries, which have the newest first, and what is kept of memory is what they
 -- did
-pub record Keeps (history : History) (es : List Entry) : Type 0 where
+pub record IsHistoryOf (history : History) (es : List Entry) : Type 0 where
   pub insns : history.insns.items ≡ insns_of es
   pub uses : map use_seen (reverse history.uses.items) ≡ uses_of es
 
 -- what was kept before is still in front
-pub record IsFront (old new : History) : Type 0 where
+pub record StaysInFront (old new : History) : Type 0 where
   pub insns : take (length old.insns.items) new.insns.items ≡ old.insns.items
   pub uses : take (length old.uses.items) new.uses.items ≡ old.uses.items

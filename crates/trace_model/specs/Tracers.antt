@@ -14,7 +14,7 @@ use Rattle.trace_model.specs.declared.retirements.KeptUse.TheVariants as kept_us
 use Rattle.trace_model.specs.declared.tracer.Tracer.{Tracer}
 use Rattle.trace_model.specs.Groups.{op_of, parts_of}
 use Rattle.trace_model.specs.Marks.{place_in, eight}
-use Rattle.trace_model.specs.Histories.{Keeps}
+use Rattle.trace_model.specs.Histories.{IsHistoryOf}
 use Rattle.trace_model.specs.Traces.{entries, granule_of}
 
 -- where byte k of a store was performed, none where there is no store
@@ -37,5 +37,5 @@ ops_seen image before (kept_use.Whole access place) = op_of access (λ k. true) 
 -- the tables and what is kept of instructions are those of these messages, which have the newest first
 pub record Follows (image : Loaded) (t : Tracer) (before : List Message) : Type 0 where
   pub stands : Stands image t.matching before
-  pub keeps : Keeps t.history (entries image before)
+  pub keeps : IsHistoryOf t.history (entries image before)
   pub granule : t.granule ≡ granule_of before

@@ -6,7 +6,7 @@ ghost use Rattle.rv_step.specs.Plans.{doing_seen};
 ghost use Rattle.matching.specs.declared.reports.OpenReport.{OpenReport};
 ghost use Rattle.matching.specs.Reports as Reports;
 ghost use Rattle.trace_model.specs.Entries.{Entry};
-ghost use Rattle.trace_model.specs.Histories.{IsFront, Keeps};
+ghost use Rattle.trace_model.specs.Histories.{StaysInFront, IsHistoryOf};
 ghost use Rattle.trace_model.specs.Retirements as Retirements;
 ghost use Rattle.trace_model.specs.Seen.{HasStored};
 ghost use Rattle.trace_model.specs.Traces.{bytes_stored};
@@ -30,12 +30,12 @@ pub struct History {
 impl History {
     ghost use Rattle.std.specs.Prelude.{◌≡◌, [], ◌∷◌, List, IfOk, OnOk, take};
     ghost use Rattle.trace_model.specs.Entries.{Entry, Fixed};
-    ghost use Rattle.trace_model.specs.Histories.{IsFront, Keeps, entry_with};
+    ghost use Rattle.trace_model.specs.Histories.{StaysInFront, IsHistoryOf, entry_with};
     ghost use Rattle.trace_model.specs.Seen.{memory_seen, use_seen};
 
     /// Before the first instruction.
     pub fn new(alloc: Global) -> History
-        ensures { Keeps result [] }
+        ensures { IsHistoryOf result [] }
     {
         History {
             insns: Vec::new(alloc),
@@ -45,7 +45,7 @@ impl History {
 
     /// A copy, which takes memory.
     pub fn copy(&self, alloc: Global) -> Result<History, AllocError>
-        ensures { (es : List Entry) → Keeps self.now es → IfOk result (λ made. Keeps made es) }
+        ensures { (es : List Entry) → IsHistoryOf self.now es → IfOk result (λ made. IsHistoryOf made es) }
     {
         Ok(History {
             insns: Vec::from_slice(alloc, &self.insns)?,
@@ -55,9 +55,9 @@ impl History {
 
     /// Keeps an instruction that did nothing to memory.
     fn push(&mut self, insn: Retired) -> Result<(), AllocError>
-        ensures front { IsFront self.old self.new }
-        ensures taken { (es : List Entry) → Keeps self.old es →
-            OnOk result (Keeps self.new (entry_with insn (Fixed []) ∷ es)) }
+        ensures front { StaysInFront self.old self.new }
+        ensures taken { (es : List Entry) → IsHistoryOf self.old es →
+            OnOk result (IsHistoryOf self.new (entry_with insn (Fixed []) ∷ es)) }
     {
         self.insns.push(insn)?;
         Ok(())
@@ -65,9 +65,9 @@ impl History {
 
     /// Keeps an instruction with what it did to memory.
     fn push_with(&mut self, insn: Retired, used: &KeptUse) -> Result<(), AllocError>
-        ensures front { IsFront self.old self.new }
-        ensures taken { (es : List Entry) → Keeps self.old es →
-            OnOk result (Keeps self.new (entry_with insn (use_seen used.now) ∷ es)) }
+        ensures front { StaysInFront self.old self.new }
+        ensures taken { (es : List Entry) → IsHistoryOf self.old es →
+            OnOk result (IsHistoryOf self.new (entry_with insn (use_seen used.now) ∷ es)) }
     {
         self.uses.push(*used)?;
         self.insns.push(insn)?;
@@ -76,9 +76,9 @@ impl History {
 
     /// Keeps an instruction with what it did to memory, if it did something.
     fn push_using(&mut self, insn: Retired, used: &Option<KeptUse>) -> Result<(), AllocError>
-        ensures front { IsFront self.old self.new }
-        ensures taken { (es : List Entry) → Keeps self.old es →
-            OnOk result (Keeps self.new (entry_with insn (memory_seen used.now) ∷ es)) }
+        ensures front { StaysInFront self.old self.new }
+        ensures taken { (es : List Entry) → IsHistoryOf self.old es →
+            OnOk result (IsHistoryOf self.new (entry_with insn (memory_seen used.now) ∷ es)) }
     {
         match used {
             Some(used) => self.push_with(insn, used),
@@ -116,11 +116,11 @@ fn keep_using(
     head: &Head,
     step: &Step,
 ) -> Result<(), AllocError>
-    ensures front { IsFront history.old history.new }
+    ensures front { StaysInFront history.old history.new }
     ensures taken { (early : List OpenReport) (es : List Entry) →
         HasStored (doing_seen step.now.plan.what) step.now.effect.store →
-        step.now.bypass ≡ Reports.early_of early head.now.hart head.now.tag → Keeps history.old es →
-        OnOk result (Keeps history.new (cons_option (Retirements.entry_of (reverse live.now) early head.now
+        step.now.bypass ≡ Reports.early_of early head.now.hart head.now.tag → IsHistoryOf history.old es →
+        OnOk result (IsHistoryOf history.new (cons_option (Retirements.entry_of (reverse live.now) early head.now
         (bytes_stored step.now.effect.store) (doing_seen step.now.plan.what)) es)) }
 {
     match &step.plan.what {
@@ -158,11 +158,11 @@ pub fn keep_retired(
     head: &Head,
     step: &Step,
 ) -> Result<(), AllocError>
-    ensures front { IsFront history.old history.new }
+    ensures front { StaysInFront history.old history.new }
     ensures taken { (early : List OpenReport) (es : List Entry) →
         HasStored (doing_seen step.now.plan.what) step.now.effect.store →
-        step.now.bypass ≡ Reports.early_of early head.now.hart head.now.tag → Keeps history.old es →
-        OnOk result (Keeps history.new (cons_option (Retirements.entry_of (reverse live.now) early head.now
+        step.now.bypass ≡ Reports.early_of early head.now.hart head.now.tag → IsHistoryOf history.old es →
+        OnOk result (IsHistoryOf history.new (cons_option (Retirements.entry_of (reverse live.now) early head.now
         (bytes_stored step.now.effect.store) (doing_seen step.now.plan.what)) es)) }
 {
     match &step.plan.what {

@@ -11,7 +11,6 @@ mod plain;
 mod retirements;
 mod tracer;
 
-pub use access::Access;
 pub use laws::{
     counts_are_of_one_hart, each_byte_has_one_fate, each_message_grows_the_trace,
     each_message_is_one_growth, fates_are_told, later_places_are_open_or_new,

@@ -15,7 +15,7 @@ ghost use Rattle.matching.specs.Steps.{IsStep};
 ghost use Rattle.matching.specs.Tables.{Stands};
 ghost use Rattle.verdict_report.specs.declared.fault.Fault.{Fault};
 ghost use Rattle.trace_model.specs.Breaking as Breaking;
-ghost use Rattle.trace_model.specs.Histories.{IsFront, Keeps};
+ghost use Rattle.trace_model.specs.Histories.{StaysInFront, IsHistoryOf};
 ghost use Rattle.trace_model.specs.Tracers.{Follows};
 ghost use Rattle.trace_model.specs.Traces.{entries, entry_in, trace_of};
 
@@ -108,13 +108,13 @@ impl Tracer {
     /// Keeps the instruction that a message retires, by its step.
     fn keep(&mut self, message: &Message) -> Result<(), AllocError>
         requires known { message.now.head.hart < 16 }
-        ensures front { IsFront self.old.history self.new.history }
+        ensures front { StaysInFront self.old.history self.new.history }
         ensures matching { self.new.matching ≡ self.old.matching }
         ensures granule { self.new.granule ≡ self.old.granule }
         ensures step { self.new.step ≡ self.old.step }
         ensures taken { (image : Loaded) (before : List Message) → Follows image self.old before →
             IsStep image before message.now.head message.now.body self.old.step →
-            OnOk result (Keeps self.new.history
+            OnOk result (IsHistoryOf self.new.history
             (cons_option (entry_in image before message.now.head message.now.body) (entries image before))) }
     {
         match &message.body {
@@ -131,7 +131,7 @@ impl Tracer {
     fn take_parts(&mut self, number: u64, message: &Message) -> Result<(), AllocError>
         requires known { message.now.head.hart < 16 }
         requires fits { Fits message.now }
-        ensures front { IsFront self.old.history self.new.history }
+        ensures front { StaysInFront self.old.history self.new.history }
         ensures taken { (image : Loaded) (before : List Message) → Follows image self.old before →
             number ≡ number_after before → match_fault image before message.now ≡ None →
             IsStep image before message.now.head message.now.body self.old.step →

@@ -1,8 +1,4 @@
-use Rattle.std.proofs.Common.{◌≡◌, ◌≤◌, ℕ, List, length}
-use Rattle.slab.specs.Slab.{get, slab_len}
-use Rattle.tag_window.specs.declared.order.Arrival.{Arrival}
-use Rattle.tag_window.specs.Order.{IsChain}
-use Rattle.tag_window.specs.Slots.{slot_with}
+use Rattle.slab.specs.Slab.{get}
 use Rattle.tag_window.proofs.Finding.{Finding}
 use Rattle.tag_window.proofs.counting.find.Given as goal
 

@@ -1,4 +1,4 @@
-use Rattle.std.proofs.Common.{◌≡◌, ◌<◌, ◌≤◌, ◌-◌, ℕ, length, slice_index_or}
+use Rattle.std.proofs.Common.{◌<◌, ◌≤◌, ◌-◌, ℕ, length, slice_index_or}
 use Rattle.tag_window.specs.declared.newest.Newest.{Newest}
 use Rattle.tag_window.proofs.newest.halve.Given as goal
 

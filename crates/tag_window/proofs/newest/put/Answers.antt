@@ -1,6 +1,3 @@
-use Rattle.std.proofs.Common.{rules, ◌≡◌, subst, sym, List}
-use Rattle.tag_window.specs.declared.newest.Newest.{Newest}
-use Rattle.tag_window.specs.Order.{Rises}
 use Rattle.tag_window.proofs.TagLists.{own_is, other_is, set_rises, set_slots, inserted_rises, inserted_slots}
 use Rattle.tag_window.proofs.newest.put.Goals as goal
 

@@ -2,13 +2,13 @@ use Rattle.std.proofs.Common.{◌≡◌, length}
 use Rattle.std.specs.List.{filter}
 use Rattle.std.specs.VecDeque.{deque_capacity}
 use Rattle.slab.specs.Slab.{get}
-use Rattle.tag_window.specs.Order.{Falls, StartsLive, is_live}
+use Rattle.tag_window.specs.Order.{PlacesFall, StartsLive, is_live}
 use Rattle.tag_window.proofs.order.trim_oldest.Given as goal
 
 abbrev pub invariant-loop-oldest : goal.invariant-loop-oldest
 invariant-loop-oldest l = record {
   live : filter (is_live (get l.links)) l.arrivals.items ≡ filter (is_live (get l.links)) l.fn.arrivals.items;
-  falls : Falls l.arrivals.items;
+  falls : PlacesFall l.arrivals.items;
   starts : StartsLive (get l.links) l.arrivals.items;
   capacity : deque_capacity l.arrivals ≡ deque_capacity l.fn.arrivals;
 }

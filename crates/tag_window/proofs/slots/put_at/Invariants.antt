@@ -1,4 +1,4 @@
-use Rattle.std.proofs.Common.{◌≡◌, ◌≢◌, ◌<◌, ◌≤◌, ℕ, length, slice_index_or, vec_capacity, ◌+◌, ◌-◌}
+use Rattle.std.proofs.Common.{◌≡◌, ◌<◌, ◌≤◌, ℕ, length, slice_index_or, vec_capacity, ◌+◌, ◌-◌}
 use Rattle.tag_window.proofs.slots.put_at.Given as goal
 
 abbrev pub invariant-loop-items : goal.invariant-loop-items

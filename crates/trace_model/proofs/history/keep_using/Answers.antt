@@ -9,7 +9,7 @@ use Rattle.matching.specs.declared.reports.OpenReport.{OpenReport}
 use Rattle.matching.specs.Reports.{bytes_counted, early_of}
 use Rattle.trace_model.specs.Entries.{Entry, Fixed}
 use Rattle.trace_model.specs.Extents.{extent_of}
-use Rattle.trace_model.specs.Histories.{Keeps, entry_with}
+use Rattle.trace_model.specs.Histories.{IsHistoryOf, entry_with}
 use Rattle.trace_model.specs.Retirements.{acquire_of, release_of, amo_ops, atomic_ops, entry, entry_of, retired, sc_ops}
 use Rattle.trace_model.specs.Seen.{memory_seen}
 use Rattle.trace_model.specs.Traces.{bytes_stored}
@@ -35,10 +35,10 @@ returns-in-Sc-clause-taken c early es stored bypass keeps =
           (release_of insn) o)) bypass
           ∙ ap (λ (x : Extent). Fixed (sc_ops early head insn x)) (sym (extent_seen e))) i;
     } in
-    subst (λ (d : Doing). OnOk c.push_using.result (Keeps c.push_using.new.self (cons_option
+    subst (λ (d : Doing). OnOk c.push_using.result (IsHistoryOf c.push_using.new.self (cons_option
     (entry_of (reverse c.args.live.now) early head (bytes_stored step.effect.store) d) es)))
     (sym (ap doing_seen c.in-Sc.is))
-    (subst (λ (x : Entry). OnOk c.push_using.result (Keeps c.push_using.new.self (x ∷ es))) own
+    (subst (λ (x : Entry). OnOk c.push_using.result (IsHistoryOf c.push_using.new.self (x ∷ es))) own
     (c.push_using.ensures.taken es keeps))
 
 pub returns-in-Amo-clause-taken : goal.returns-in-Amo-clause-taken
@@ -59,8 +59,8 @@ returns-in-Amo-clause-taken c early es stored bypass keeps =
           (bytes_counted live head.tag e.addr e.len) (acquire_of insn) (release_of insn) o)) bypass
           ∙ ap (λ (x : Extent). Fixed (amo_ops live early head insn x)) (sym (extent_seen e))) i;
     } in
-    subst (λ (d : Doing). OnOk c.push_using-in-Amo.result (Keeps c.push_using-in-Amo.new.self (cons_option
+    subst (λ (d : Doing). OnOk c.push_using-in-Amo.result (IsHistoryOf c.push_using-in-Amo.new.self (cons_option
     (entry_of live early head (bytes_stored step.effect.store) d) es)))
     (sym (ap doing_seen c.in-Amo.is))
-    (subst (λ (x : Entry). OnOk c.push_using-in-Amo.result (Keeps c.push_using-in-Amo.new.self (x ∷ es))) own
+    (subst (λ (x : Entry). OnOk c.push_using-in-Amo.result (IsHistoryOf c.push_using-in-Amo.new.self (x ∷ es))) own
     (c.push_using-in-Amo.ensures.taken es keeps))

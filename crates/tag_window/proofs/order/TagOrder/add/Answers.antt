@@ -1,7 +1,7 @@
 use Rattle.std.proofs.Common.{ℕ, ◌≡◌, ◌∷◌, ◌∙◌, sym, subst, ap, length, List, Option, Some, arith}
 use Rattle.slab.specs.Slab.{get}
 use Rattle.tag_window.specs.declared.order.Arrival.{Arrival}
-use Rattle.tag_window.specs.Order.{AllBefore, AllElsewhere, AreKept, StartsLive, EndsLive, live, live_of, slot_under}
+use Rattle.tag_window.specs.Order.{AllBefore, AllElsewhere, AreKept, StartsLive, EndsLive, live_reports, live_of}
 use Rattle.tag_window.proofs.Chains.{added_live, added_kept, added_starts, added_ends, added_elsewhere, heads_room}
 use Rattle.tag_window.proofs.order.TagOrder.add.Goals as goal
 
@@ -30,7 +30,7 @@ returns-clause-live c =
     c.put-older.ensures.was (subst
     (λ (k : ℕ). get i.new.self k ≡ Some (record { place = c.args.place; older = c.put-older.result })) same
     i.ensures.updates.changed) in
-    let later : AllBefore c.args.place (live c.make_room.new.self) =
+    let later : AllBefore c.args.place (live_reports c.make_room.new.self) =
     subst (AllBefore c.args.place) (sym m.live) c.requires.later in
     ap (live_of (get i.new.self)) c.push_front_reserved.ensures.items
     ∙ added_live o.links i.new.self o.arrivals.items o.newest.items c.put-older.new.newest.items c.args.tag slot
@@ -51,7 +51,7 @@ returns-clause-free c =
     c.put-older.ensures.was (subst
     (λ (k : ℕ). get i.new.self k ≡ Some (record { place = c.args.place; older = c.put-older.result })) same
     i.ensures.updates.changed) in
-    let later : AllBefore c.args.place (live c.make_room.new.self) =
+    let later : AllBefore c.args.place (live_reports c.make_room.new.self) =
     subst (AllBefore c.args.place) (sym m.live) c.requires.later in
     subst (AllElsewhere slot) m.live
     (added_elsewhere o.links i.new.self o.arrivals.items o.newest.items c.put-older.new.newest.items c.args.tag slot
@@ -71,7 +71,7 @@ returns-clause-sound c =
     c.put-older.ensures.was (subst
     (λ (k : ℕ). get i.new.self k ≡ Some (record { place = c.args.place; older = c.put-older.result })) same
     i.ensures.updates.changed) in
-    let later : AllBefore c.args.place (live c.make_room.new.self) =
+    let later : AllBefore c.args.place (live_reports c.make_room.new.self) =
     subst (AllBefore c.args.place) (sym m.live) c.requires.later in
     let p = c.push_front_reserved.ensures in
     record {

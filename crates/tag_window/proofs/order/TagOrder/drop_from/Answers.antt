@@ -1,6 +1,6 @@
 use Rattle.std.proofs.Common.{◌∙◌, sym, refl, arith}
 use Rattle.slab.specs.Slab.{get}
-use Rattle.tag_window.specs.Order.{arrivals_below, live, with_tag}
+use Rattle.tag_window.specs.Order.{arrivals_below, live_reports, arrivals_of_tag}
 use Rattle.tag_window.proofs.Chains.{freed_chain, freed_links, freed_falls, chain_some}
 use Rattle.tag_window.proofs.Orders.{dropping_goes, below_without, all_below}
 use Rattle.tag_window.proofs.order.TagOrder.drop_from.Goals as goal
@@ -37,9 +37,9 @@ loop-last-preserved c =
     c.in-Some.last.slot v.kept e.taken.1 e.rises e.slots in
     dropping_goes (arrivals_below c.args.tag) c.args.self.now o
     (record o { links = c.free.new.links; newest = c.take_last.new.newest }) tag c.in-Some.last.slot v e.taken.1 e.rises
-    e.slots (c.free.ensures.freed (with_tag tag (live o)) chain falls)
-    (c.free.ensures.count (with_tag tag (live o)) chain falls)
-    (below_without c.args.tag tag (live o) e.taken.0) refl c.free.ensures.capacity e.capacity refl
+    e.slots (c.free.ensures.freed (arrivals_of_tag tag (live_reports o)) chain falls)
+    (c.free.ensures.count (arrivals_of_tag tag (live_reports o)) chain falls)
+    (below_without c.args.tag tag (live_reports o) e.taken.0) refl c.free.ensures.capacity e.capacity refl
 
 pub returns-clause-live : goal.returns-clause-live
 returns-clause-live c =

@@ -1,9 +1,7 @@
-use Rattle.std.proofs.Common.{◌≡◌}
 use Rattle.slab.specs.Slab.{slab_len}
 use Rattle.tag_window.specs.Order.{arrivals_below}
 use Rattle.tag_window.proofs.Orders.{Dropping}
 use Rattle.tag_window.proofs.order.TagOrder.drop_from.Given as goal
-use Rattle.std.proofs.Common.{length}
 
 abbrev pub invariant-loop-last : goal.invariant-loop-last
 invariant-loop-last l = Dropping (arrivals_below l.tag) l.fn.self l.self

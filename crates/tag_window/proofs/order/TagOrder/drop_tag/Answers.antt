@@ -1,6 +1,5 @@
 use Rattle.std.proofs.Common.{◌∙◌, sym, refl}
-use Rattle.slab.specs.Slab.{get}
-use Rattle.tag_window.specs.Order.{live, with_tag}
+use Rattle.tag_window.specs.Order.{live_reports, arrivals_of_tag}
 use Rattle.tag_window.proofs.Chains.{freed_chain, freed_links, freed_falls, freed_kept, freed_live}
 use Rattle.tag_window.proofs.Orders.{none_of_tag, trimmed}
 use Rattle.tag_window.proofs.order.TagOrder.drop_tag.Goals as goal
@@ -31,8 +30,8 @@ returns-in-Some-clause-live c =
     c.trim.ensures.live
     ∙ freed_live o.links c.free.new.links o.arrivals.items o.newest.items c.take.new.newest.items c.args.tag
     c.in-Some.slot c.requires.kept (sym e.was) e.rises e.slots
-    (c.free.ensures.freed (with_tag c.args.tag (live o)) chain falls)
-    (c.free.ensures.count (with_tag c.args.tag (live o)) chain falls)
+    (c.free.ensures.freed (arrivals_of_tag c.args.tag (live_reports o)) chain falls)
+    (c.free.ensures.count (arrivals_of_tag c.args.tag (live_reports o)) chain falls)
 
 pub returns-in-Some-clause-sound : goal.returns-in-Some-clause-sound
 returns-in-Some-clause-sound c =
@@ -48,6 +47,6 @@ returns-in-Some-clause-sound c =
     trimmed o (record o { links = c.free.new.links; newest = c.take.new.newest }) c.trim.new.self c.requires
     (freed_kept o.links c.free.new.links o.arrivals.items o.newest.items c.take.new.newest.items c.args.tag
     c.in-Some.slot c.requires.kept (sym e.was) e.rises e.slots
-    (c.free.ensures.freed (with_tag c.args.tag (live o)) chain falls)
-    (c.free.ensures.count (with_tag c.args.tag (live o)) chain falls))
+    (c.free.ensures.freed (arrivals_of_tag c.args.tag (live_reports o)) chain falls)
+    (c.free.ensures.count (arrivals_of_tag c.args.tag (live_reports o)) chain falls))
     c.free.ensures.capacity refl e.capacity refl t.live t.falls t.starts t.ends t.arrivals t.links t.newest t.capacity

@@ -1,6 +1,6 @@
 use Rattle.std.proofs.Common.{◌∙◌, sym, refl, arith}
 use Rattle.slab.specs.Slab.{get}
-use Rattle.tag_window.specs.Order.{arrivals_above, live, with_tag}
+use Rattle.tag_window.specs.Order.{arrivals_above, live_reports, arrivals_of_tag}
 use Rattle.tag_window.proofs.Chains.{freed_chain, freed_links, freed_falls, chain_some}
 use Rattle.tag_window.proofs.Orders.{dropping_goes, above_without, all_above}
 use Rattle.tag_window.proofs.order.TagOrder.drop_to.Goals as goal
@@ -39,9 +39,9 @@ loop-first-preserved c =
     dropping_goes (arrivals_above c.args.tag) c.args.self.now o
     (record o { links = c.free.new.links; newest = c.take_first.new.newest }) tag c.in-Some.first.slot v e.taken.1
     e.rises
-    e.slots (c.free.ensures.freed (with_tag tag (live o)) chain falls)
-    (c.free.ensures.count (with_tag tag (live o)) chain falls)
-    (above_without c.args.tag tag (live o) e.taken.0) refl c.free.ensures.capacity e.capacity refl
+    e.slots (c.free.ensures.freed (arrivals_of_tag tag (live_reports o)) chain falls)
+    (c.free.ensures.count (arrivals_of_tag tag (live_reports o)) chain falls)
+    (above_without c.args.tag tag (live_reports o) e.taken.0) refl c.free.ensures.capacity e.capacity refl
 
 pub returns-clause-live : goal.returns-clause-live
 returns-clause-live c =

@@ -1,9 +1,7 @@
-use Rattle.std.proofs.Common.{◌≡◌}
 use Rattle.slab.specs.Slab.{slab_len}
 use Rattle.tag_window.specs.Order.{arrivals_above}
 use Rattle.tag_window.proofs.Orders.{Dropping}
 use Rattle.tag_window.proofs.order.TagOrder.drop_to.Given as goal
-use Rattle.std.proofs.Common.{length}
 
 abbrev pub invariant-loop-first : goal.invariant-loop-first
 invariant-loop-first l = Dropping (arrivals_above l.tag) l.fn.self l.self

@@ -1,8 +1,8 @@
-use Rattle.std.proofs.Common.{ℕ, ◌≡◌, ◌+◌, ◌∙◌, Some, None, is_some, sym, ap, subst, List, arith}
+use Rattle.std.proofs.Common.{subst}
 use Rattle.std.specs.List.{slice_index}
-use Rattle.tag_window.specs.Order.{live, with_tag}
-use Rattle.tag_window.specs.Slots.{no_read, place_of_read, tagged}
-use Rattle.tag_window.specs.Windows.{Window, counting, IsPartOf, IsLowestMissing}
+use Rattle.tag_window.specs.Order.{live_reports, arrivals_of_tag}
+use Rattle.tag_window.specs.Slots.{no_read, place_of_read}
+use Rattle.tag_window.specs.Windows.{Window, IsInPart, IsLowestMissing}
 use Rattle.tag_window.proofs.Held.{linked, chain_from, part_of, lowest_missing}
 use Rattle.tag_window.proofs.tags.Tags.counting.Goals as goal
 
@@ -19,11 +19,11 @@ returns-in-None-clause-all c = λ k l.
     let chain = chain_from place_of_read no_read t.reads t.read_items.items v.0 v.2 c.args.tag c.slot_of-head.result
     c.slot_of-head.ensures in
     let found = (c.in-None.ensures {u = tt}).found in
-    subst (λ (w : Window). IsPartOf c.args.tag c.args.extent.now.addr w.reads k (slice_index c.parts_of.result k))
+    subst (λ (w : Window). IsInPart c.args.tag c.args.extent.now.addr w.reads k (slice_index c.parts_of.result k))
     c.self.view_is
     (part_of t.reads t.read_items.items v.0 v.2 c.args.tag c.args.extent.now.addr c.args.extent.now.len k
     (slice_index c.parts_of.result k) c.slots_of.new.slots
-    (λ i m. found i m (with_tag c.args.tag (live t.reads)) chain) l (c.parts_of.ensures k l))
+    (λ i m. found i m (arrivals_of_tag c.args.tag (live_reports t.reads)) chain) l (c.parts_of.ensures k l))
 
 pub returns-in-Some-clause-missing : goal.returns-in-Some-clause-missing
 returns-in-Some-clause-missing c =

@@ -1,6 +1,6 @@
-use Rattle.std.proofs.Common.{ℕ, ◌≡◌, ◌∙◌, sym, ap, subst, nat_lt, length, List, arith}
+use Rattle.std.proofs.Common.{ℕ, ◌∙◌, sym, ap, subst, nat_lt, length, arith}
 use Rattle.tag_window.specs.declared.order.Arrival.{Arrival}
-use Rattle.tag_window.specs.Order.{live}
+use Rattle.tag_window.specs.Order.{live_reports}
 use Rattle.tag_window.specs.Slots.{AreIn, tagged, no_read, place_of_read}
 use Rattle.tag_window.specs.Windows.{Window, below}
 use Rattle.tag_window.proofs.Arrivals.{filter_fewer}
@@ -11,7 +11,8 @@ pub returns-clause-reads : goal.returns-clause-reads
 returns-clause-reads c =
     let t = c.self.inside in
     ap (tagged no_read t.read_items.items) c.drop_from.ensures.live
-    ∙ sym (tagged_filter place_of_read no_read (λ (n : ℕ). nat_lt n c.args.from) t.read_items.items (live t.reads))
+    ∙ sym (tagged_filter place_of_read no_read (λ (n : ℕ). nat_lt n c.args.from) t.read_items.items
+    (live_reports t.reads))
     ∙ ap (λ (w : Window). below c.args.from w.reads) c.self.view_is
 
 pub invariant_of-self : goal.invariant_of-self
@@ -22,11 +23,17 @@ invariant_of-self c =
       e.sound,
       v.1,
       subst (AreIn place_of_read no_read t.read_items.items) (sym e.live) (are_in_filter place_of_read no_read
-          (λ (a : Arrival). nat_lt a.tag c.args.from) t.read_items.items (live t.reads) v.2),
+          (λ (a : Arrival). nat_lt a.tag c.args.from) t.read_items.items (live_reports t.reads) v.2),
       v.3,
       e.capacity ∙ v.4,
       v.5,
       omega (arith, e.links, v.6),
       v.7,
-      omega (arith, ap length e.live, filter_fewer (λ (a : Arrival). nat_lt a.tag c.args.from) (live t.reads), v.8),
+      omega (
+        arith,
+        ap length e.live,
+        filter_fewer (λ (a : Arrival). nat_lt a.tag c.args.from)
+            (live_reports t.reads),
+        v.8,
+      ),
     )

@@ -11,7 +11,7 @@ use Rattle.matching.specs.Reports.{early, live}
 use Rattle.matching.specs.Runs.{doing_at, effect_at}
 use Rattle.matching.specs.Steps.{IsStep, StepIs}
 use Rattle.trace_model.specs.Entries.{Entry}
-use Rattle.trace_model.specs.Histories.{Keeps}
+use Rattle.trace_model.specs.Histories.{IsHistoryOf}
 use Rattle.trace_model.specs.Retirements.{entry_of}
 use Rattle.trace_model.specs.Seen.{HasStored}
 use Rattle.trace_model.specs.Traces.{bytes_stored, entries, entry_in, stored_at}
@@ -41,6 +41,6 @@ returns-in-Retire-clause-taken c image before f is =
     ∙ ap (λ (d : Doing). entry_of (live before head.hart) (early before) head (stored_at image before head retire) d)
     plan
     ∙ ap (entry_in image before head) (sym c.in-Retire.is) in
-    subst (λ (o : Option Entry). OnOk c.keep_retired.result (Keeps c.keep_retired.new.history
+    subst (λ (o : Option Entry). OnOk c.keep_retired.result (IsHistoryOf c.keep_retired.new.history
     (cons_option o (entries image before)))) same
     (c.keep_retired.ensures.taken (early before) (entries image before) stored s.bypass f.keeps)
