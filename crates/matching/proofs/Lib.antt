@@ -1,4 +1,5 @@
 pub mod CsrLaws
+pub mod Results
 pub mod Reversed
 pub mod Mapped
 pub mod Loading

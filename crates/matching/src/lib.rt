@@ -17,8 +17,7 @@ mod stores;
 mod tables;
 
 pub use laws::nothing_is_performed_before_it_retires;
-pub use reports::{OpenReport, bytes_read, counting, early_of};
-pub use run::{Clocks, Pair};
+pub use reports::{OpenReport, bytes_read, counting};
 pub use step::Step;
-pub use stores::{Fate, Held, Stored, Tracked, store_under};
+pub use stores::{Fate, Stored, Tracked, store_under};
 pub use tables::Matching;

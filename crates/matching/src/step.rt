@@ -21,8 +21,16 @@ pub struct Step {
 }
 
 impl Step {
-    /// A place for a step: of no instruction yet.
-    pub fn new() -> Step {
+    ghost use Rattle.std.specs.Prelude.{◌≡◌, None};
+    ghost use Rattle.rv_step.specs.Steps.{reports};
+    ghost use Rattle.rv_step.specs.declared.plan.What.TheVariants.{Trap};
+
+    /// A place for a step: of no instruction yet. It reads as a trap at a word of 0, which does nothing.
+    pub fn new() -> Step
+        ensures plan { result.plan ≡ record { word = 0; what = Trap 0 0 } }
+        ensures effect { result.effect ≡ reports 0 None }
+        ensures bypass { result.bypass ≡ None }
+    {
         Step {
             plan: Plan {
                 word: 0,

@@ -1,16 +1,14 @@
-use Rattle.std.proofs.Common.{rules, ◌≡◌, ◌∙◌, List, ap, subst, slice_index_or, reverse, Ok, Err}
-use Rattle.std.specs.Prelude.{OnOk}
+use Rattle.std.proofs.Common.{rules, ◌≡◌, ◌∙◌, List, ap, subst, slice_index_or, reverse}
 use Rattle.std.specs.declared.option.Option.{Option}
-use Rattle.std.specs.declared.result.Result.{Result}
 use Rattle.elf_image.specs.Images.{loaded_of}
 use Rattle.verdict_report.specs.declared.fault.Fault.{Fault}
-use Rattle.matching.specs.declared.faulty.Faulty.{Faulty}
 use Rattle.matching.specs.Checks.{Checks}
 use Rattle.matching.specs.declared.hart_table.HartTable.{HartTable}
 use Rattle.matching.specs.declared.reports.OpenReport.{OpenReport}
 use Rattle.matching.specs.Tables.{table_of, table_fault, IsTableStep}
 use Rattle.matching.proofs.Stepped.{step_stands}
 use Rattle.matching.proofs.Standing.{fault_stands}
+use Rattle.matching.proofs.Results.{on_ok}
 use Rattle.matching.proofs.tables.Matching.check_hart.Goals as goal
 
 pub returns-clause-fault : goal.returns-clause-fault
@@ -25,10 +23,6 @@ returns-clause-fault c before s no_end =
     ∙ ap (λ (t : HartTable). table_fault image old.config (reverse old.early.items) (table_of t) m.head m.body) e
     ∙ fault_stands image old before m.head m.body c.index.result.now s c.requires.known no_end)
     c.check.ensures.fault
-
-on_ok : {P Q : Type 0} → (r : Result (Unit {0}) Faulty) → OnOk r P → (P → Q) → OnOk r Q
-on_ok (Ok u) p f = f p
-on_ok (Err e) p f = tt
 
 pub returns-clause-step : goal.returns-clause-step
 returns-clause-step c before s =
