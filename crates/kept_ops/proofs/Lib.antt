@@ -1,5 +1,13 @@
 pub mod Arrived
+pub mod Changes
+pub mod Fits
+pub mod Found
 pub mod Keeping
+pub mod Knowing
 pub mod Late
+pub mod Latest
+pub mod LatestLeft
+pub mod Marked
 pub mod Rising
+pub mod Seen
 pub mod Slots

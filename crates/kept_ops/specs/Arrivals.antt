@@ -26,8 +26,8 @@ earliest_on_top x y =
     (nat_cmp y.0.key x.0.key)
 
 -- the places rise
-abbrev pub Rises : List Arrival → Type 0
-Rises items = AllPairs (λ a b. comes_before a.place b.place ≡ true) items
+abbrev pub PlacesRise : List Arrival → Type 0
+PlacesRise items = AllPairs (λ a b. comes_before a.place b.place ≡ true) items
 
 -- those of a heap
 abbrev pub unreversed : List (Reverse Arrival) → List Arrival

@@ -5,7 +5,7 @@ ghost use Rattle.std.specs.List.Sorted.{IsPermutation};
 ghost use Rattle.std.specs.BinaryHeap.{IsHeap, heap_items, heap_len, heap_capacity};
 ghost use Rattle.std.specs.VecDeque.{deque_len, deque_capacity};
 ghost use Rattle.tandem_base.specs.Places.{comes_before};
-ghost use Rattle.kept_ops.specs.Arrivals.{Rises, earliest_on_top, stays, unreversed};
+ghost use Rattle.kept_ops.specs.Arrivals.{PlacesRise, earliest_on_top, stays, unreversed};
 
 use std::alloc::{AllocError, Global};
 use std::cmp::Reverse;
@@ -33,13 +33,13 @@ impl Model for Arrivals {
     ghost use Rattle.std.specs.Prelude.{◌≡◌, ◌+◌, ◌≤◌, ◌++◌, length};
     ghost use Rattle.std.specs.BinaryHeap.{IsHeap, heap_items, heap_len, heap_capacity};
     ghost use Rattle.std.specs.VecDeque.{deque_len, deque_capacity};
-    ghost use Rattle.kept_ops.specs.Arrivals.{ArrivalList, Rises, earliest_on_top, unreversed};
+    ghost use Rattle.kept_ops.specs.Arrivals.{ArrivalList, PlacesRise, earliest_on_top, unreversed};
 
     ghost Value = { ArrivalList };
 
     ghost view = { λ a. record { items = a.rising.items ++ unreversed (heap_items a.late); capacity = a.capacity } };
 
-    ghost invariant = { λ a. Rises a.rising.items × IsHeap earliest_on_top (heap_items a.late)
+    ghost invariant = { λ a. PlacesRise a.rising.items × IsHeap earliest_on_top (heap_items a.late)
         × (deque_len a.rising + heap_len a.late ≤ a.capacity) × (a.capacity ≤ deque_capacity a.rising)
         × (a.capacity ≤ heap_capacity a.late) };
 }
@@ -56,7 +56,7 @@ fn stays(oldest: Option<Position>, place: Position) -> bool
 
 /// Whether a place is after all those that rise.
 fn rises(rising: &VecDeque<Arrival>, place: Position) -> bool
-    requires { Rises rising.now.items }
+    requires { PlacesRise rising.now.items }
     ensures { result ≡ true → All (λ a. comes_before a.place place ≡ true) rising.now.items }
 {
     match rising.back() {
@@ -67,11 +67,11 @@ fn rises(rising: &VecDeque<Arrival>, place: Position) -> bool
 
 /// Puts a place after those that rise.
 fn add_rising(rising: &mut VecDeque<Arrival>, arrival: Arrival)
-    requires rises { Rises rising.old.items }
+    requires rises { PlacesRise rising.old.items }
     requires after { All (λ a. comes_before a.place arrival.place ≡ true) rising.old.items }
     requires room { deque_len rising.old < deque_capacity rising.old }
     ensures items { rising.new.items ≡ rising.old.items ++ arrival ∷ [] }
-    ensures rises { Rises rising.new.items }
+    ensures rises { PlacesRise rising.new.items }
     ensures len { deque_len rising.new ≡ deque_len rising.old + 1 }
     ensures capacity { deque_capacity rising.old ≤ deque_capacity rising.new }
 {
@@ -98,12 +98,12 @@ fn add_late(late: &mut BinaryHeap<Reverse<Arrival>>, arrival: Arrival)
 
 /// Takes the first of those that rise, if it doesn't stay.
 fn take_rising(rising: &mut VecDeque<Arrival>, oldest: Option<Position>) -> Option<Arrival>
-    requires { Rises rising.old.items }
+    requires { PlacesRise rising.old.items }
     ensures gone { IfSome result (λ a. stays oldest a.place ≡ false) }
     ensures rest { IfSome result (λ a. rising.old.items ≡ a ∷ rising.new.items) }
     ensures none { IfNone result (All (λ a. stays oldest a.place ≡ true) rising.old.items) }
     ensures same { IfNone result (rising.new ≡ rising.old) }
-    ensures rises { Rises rising.new.items }
+    ensures rises { PlacesRise rising.new.items }
     ensures len { deque_len rising.new ≤ deque_len rising.old }
     ensures capacity { deque_capacity rising.new ≡ deque_capacity rising.old }
 {

@@ -1,0 +1,10 @@
+use Rattle.std.proofs.Common.{ℕ, [], sym, subst}
+use Rattle.kept_ops.specs.Tables.{KeptTable, KnowsLatest}
+use Rattle.kept_ops.proofs.LatestLeft.{latest_of_none}
+use Rattle.kept_ops.proofs.Seen.{nothing_seen}
+use Rattle.kept_ops.proofs.kept.Kept.new.Goals as goal
+
+pub returns-clause-latest : goal.returns-clause-latest
+returns-clause-latest c = subst (λ (t : KeptTable). (x : ℕ) → KnowsLatest t x [])
+    (sym (nothing_seen c.in_ok-with_capacity.field-0 c.in_ok-new-2.field-0 c.args.capacity
+    c.in_ok-with_capacity.ensures.empty c.in_ok-new-2.ensures.empty)) latest_of_none
