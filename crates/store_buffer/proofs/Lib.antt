@@ -1,0 +1,10 @@
+pub mod Answered
+pub mod Given
+pub mod Inside
+pub mod Newest
+pub mod Opens
+pub mod Rising
+pub mod Room
+pub mod Slotted
+pub mod Values
+pub mod Waits

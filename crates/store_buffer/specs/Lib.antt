@@ -1,0 +1,4 @@
+pub mod Searches
+pub mod Slots
+pub mod Store
+pub mod Stores

@@ -1,0 +1,16 @@
+//! Stores that retired and aren't wholly performed: what is left of each.
+#![tactic(auto)]
+
+mod laws;
+mod parts;
+mod store;
+mod stores;
+mod table;
+
+pub use laws::a_store_waits_for_its_last_byte;
+pub use parts::Taken;
+pub use store::{ByteState, Entry, StoreMarks};
+pub use stores::Stores;
+
+#[cfg(test)]
+mod tests;
