@@ -1,0 +1,5 @@
+pub mod Depending
+pub mod Insns
+pub mod Latest
+pub mod Standing
+pub mod Tagged

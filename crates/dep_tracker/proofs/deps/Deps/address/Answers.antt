@@ -1,0 +1,13 @@
+use Rattle.std.proofs.Common.{Option, sym, subst}
+use Rattle.rv_decode.specs.Registers.{is_address}
+use Rattle.tandem_base.specs.declared.mark.Mark.{Mark}
+use Rattle.dep_tracker.specs.Marks.{UsedBy, IsLatestMark}
+use Rattle.dep_tracker.proofs.Insns.{address_no_csr}
+use Rattle.dep_tracker.proofs.Standing.{used_one}
+use Rattle.dep_tracker.proofs.deps.Deps.address.Goals as goal
+
+pub returns : goal.returns
+returns c = λ ws st. subst (λ (o : Option Mark). IsLatestMark (UsedBy is_address c.args.insn.now ws) o)
+    (sym c.of_number.ensures)
+    (used_one c.args.self.now ws is_address c.args.insn.now c.address_source.result (address_no_csr c.args.insn.now)
+    c.address_source.ensures st)

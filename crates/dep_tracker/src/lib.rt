@@ -1,0 +1,11 @@
+//! The latest operations on which the instructions of a hart depend (section 14.1).
+#![tactic(auto)]
+
+mod deps;
+mod laws;
+
+pub use deps::Deps;
+pub use laws::dependencies_are_by_tags;
+
+#[cfg(test)]
+mod tests;
