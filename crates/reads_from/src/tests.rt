@@ -1,0 +1,109 @@
+//! Loads of worked streams: X is 0x80001000, and a place is the number of its message.
+
+ghost use Rattle.std.specs.Prelude.{◌<◌};
+
+use crate::{WaitingByte, source_of};
+use byte_memory::{Capture, Writer};
+use kept_ops::{Kept, KeptOp};
+use rvwmo_model::OpKind;
+use std::test::Fail;
+use tandem_base::{Bytes8, Extent, OpName, Origin, Position};
+use window_laws::ByteSource;
+
+const X: u64 = 0x8000_1000;
+
+fn place(message: u32, insert: u32) -> Position {
+    Position { message, insert }
+}
+
+/// The source of byte `k` from X up, for a report at message 7 that saw one value, by one last writer or
+/// none, in the first four bytes of the doubleword at X, and zeros behind them.
+fn source_at(
+    waiting: Option<WaitingByte>,
+    kept: &Kept,
+    value: u8,
+    last: Option<Writer>,
+    k: u64,
+) -> ByteSource
+    requires { k < 8 }
+{
+    let capture = Capture {
+        place: place(7, 7),
+        base: X,
+        values: [value, value, value, value, 0, 0, 0, 0],
+        last: [last, last, last, last, None, None, None, None],
+    };
+    source_of(waiting, kept, &capture, X + k)
+}
+
+/// A store of four bytes at X of hart 0 that was drained from Insert 9 by message 10.
+fn drained(tag: u64, bytes: &[u8]) -> Result<KeptOp, Fail> {
+    Ok(KeptOp {
+        name: OpName {
+            hart: 0,
+            tag,
+            part: 0,
+        },
+        place: place(10, 9),
+        kind: OpKind::Store,
+        extent: Extent::new(X, 4).ok_or("no extent")?,
+        mask: 0xf,
+        put: Bytes8::new(bytes).ok_or("no bytes")?,
+        atomic: false,
+        sources: [None; 8],
+        lead: None,
+    })
+}
+
+fn waits(tag: u64, byte: u8) -> Option<WaitingByte> {
+    Some(WaitingByte { hart: 0, tag, byte })
+}
+
+fn from(hart: u8, tag: u64, place: Option<Position>, byte: u8) -> ByteSource {
+    ByteSource {
+        writer: Some(Origin { hart, tag }),
+        place,
+        byte,
+    }
+}
+
+#[test]
+fn a_store_that_waits_is_forwarded(rt: HostRuntime) -> Result<(), Fail> {
+    let mut kept = Kept::new(rt.alloc(), 2)?;
+    assert_eq!(rt;
+        source_at(waits(1, 1), &kept, 0, None, 0),
+        from(0, 1, None, 1)
+    );
+    kept.keep(&drained(1, &[5, 6, 7, 8])?);
+    assert_eq!(rt;
+        source_at(waits(2, 1), &kept, 0, None, 0),
+        from(0, 2, None, 1)
+    );
+    assert_eq!(rt;
+        source_at(None, &kept, 0, None, 2),
+        from(0, 1, Some(place(10, 9)), 7)
+    );
+    Ok(())
+}
+
+#[test]
+fn what_was_seen_is_read_where_no_own_store_is_later(rt: HostRuntime) -> Result<(), Fail> {
+    let none = ByteSource {
+        writer: None,
+        place: None,
+        byte: 0,
+    };
+    let kept = Kept::new(rt.alloc(), 2)?;
+    assert_eq!(rt; source_at(None, &kept, 0, None, 3), none);
+    let other = Writer {
+        hart: 1,
+        tag: 4,
+        place: place(6, 5),
+    };
+    assert_eq!(rt;
+        source_at(None, &kept, 9, Some(other), 3),
+        from(1, 4, Some(place(6, 5)), 9)
+    );
+    assert_eq!(rt; source_at(None, &kept, 9, Some(other), 4), none);
+    Ok(())
+}

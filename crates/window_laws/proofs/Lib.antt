@@ -1,0 +1,12 @@
+pub mod CapturesGrown
+pub mod ForeignSeen
+pub mod GoneOn
+pub mod Kept
+pub mod Latests
+pub mod MemoryGrown
+pub mod MemorySeen
+pub mod Placed
+pub mod SplitSources
+pub mod Stores
+pub mod ToldSources
+pub mod WaitingGrown

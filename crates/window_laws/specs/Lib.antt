@@ -1,0 +1,10 @@
+pub mod CaptureLaws
+pub mod Captures
+pub mod Keeping
+pub mod KeepingLaws
+pub mod Latest
+pub mod SourceLaws
+pub mod Tables
+pub mod ToldSources
+pub mod Waiting
+pub mod WaitingLaws
