@@ -9,7 +9,7 @@ const RAM: [Ram; 1] = [Ram {
 }];
 
 /// One word of code, and RAM.
-pub fn image(alloc: Global) -> Result<Image, AllocError> {
+pub(crate) fn image(alloc: Global) -> Result<Image, AllocError> {
     match Image::flat(alloc, &[0x93, 0, 0x50, 0], 0x8000_0000, &RAM) {
         Ok(image) => Ok(image),
         Err(_) => Err(AllocError),

@@ -5,7 +5,10 @@
 //! With the argument `times` it has the nanoseconds a call instead.
 #![tactic(auto)]
 
+mod harts;
 mod image;
+mod kept_list;
+mod kept_runs;
 mod memory_list;
 mod memory_runs;
 mod merge_list;
@@ -13,8 +16,12 @@ mod merge_runs;
 mod merging;
 mod orders;
 mod random;
+mod reporting;
 mod run;
 mod stopwatch;
+mod tag_list;
+mod tag_runs;
+mod tag_steps;
 
 use run::Run;
 use std::alloc::{AllocError, Global};
@@ -27,6 +34,9 @@ fn answers(rt: &HostRuntime, run: &Run) -> io::Result<Told> {
     match run.table {
         "memory" => memory_runs::answers(rt, run),
         "merge" => merge_runs::answers(rt, run),
+        "tags" => tag_runs::answers(rt, run),
+        "kept" => kept_runs::answers(rt, run),
+        "harts" => harts::answers(rt, run),
         _ => Err(io::ErrorKind::InvalidInput.into()),
     }
 }
@@ -36,6 +46,8 @@ fn differences(alloc: Global, run: &Run) -> Result<u64, AllocError> {
     match run.table {
         "memory" => memory_list::differences(alloc, run.seed, run.calls),
         "merge" => merge_list::differences(alloc, run.seed, run.calls),
+        "tags" => tag_list::differences(alloc, run.seed, run.calls),
+        "kept" => kept_list::differences(alloc, run.seed, run.calls),
         _ => Ok(u64::MAX),
     }
 }

@@ -31,7 +31,7 @@ struct Beside {
 }
 
 /// How many answers of calls at random differ from those of the list.
-pub fn differences(alloc: Global, seed: u64, calls: u32) -> Result<u64, AllocError> {
+pub(crate) fn differences(alloc: Global, seed: u64, calls: u32) -> Result<u64, AllocError> {
     let image = image(alloc)?;
     let mut random = Random::new(seed);
     let mut beside = Beside::new(alloc);

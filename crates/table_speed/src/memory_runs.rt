@@ -15,7 +15,7 @@ use std::time::Instant;
 use tandem_base::{Bytes8, Extent, Position};
 
 /// What the calls of a run answered.
-pub fn answers(rt: &HostRuntime, run: &Run) -> io::Result<Told> {
+pub(crate) fn answers(rt: &HostRuntime, run: &Run) -> io::Result<Told> {
     let image = image(rt.alloc())?;
     let addresses = run.order.addresses(rt.alloc(), run.entries, run.calls)?;
     let mut memory = filled(rt.alloc(), run.order, run.entries)?;
@@ -60,7 +60,7 @@ fn store(memory: &mut Memory, addr: u64, bytes: Bytes8, writer: &Writer) -> Resu
 }
 
 /// Memory in which each doubleword of so many lines was stored to.
-fn filled(alloc: Global, order: Order, entries: u32) -> Result<Memory, AllocError> {
+pub(crate) fn filled(alloc: Global, order: Order, entries: u32) -> Result<Memory, AllocError> {
     let mut memory = Memory::new(alloc);
     if let Some(bytes) = bytes() {
         for k in 0..entries {

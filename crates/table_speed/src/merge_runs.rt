@@ -22,7 +22,7 @@ enum Step {
 }
 
 /// What the calls of a run answered: Inserts, each with its share of a Write.
-pub fn answers(rt: &HostRuntime, run: &Run) -> io::Result<Told> {
+pub(crate) fn answers(rt: &HostRuntime, run: &Run) -> io::Result<Told> {
     let mut buffer = Numbered::new(rt.alloc(), run.entries.saturating_add(8))?;
     if run.call == "reserve" {
         return read(rt, &Instant::now(rt)?, buffer.count() as u64);

@@ -27,7 +27,7 @@ impl Model for Numbered {
 
 impl Numbered {
     /// An empty buffer.
-    pub fn new(alloc: Global, capacity: u32) -> Result<Numbered, AllocError> {
+    pub(crate) fn new(alloc: Global, capacity: u32) -> Result<Numbered, AllocError> {
         Ok(Numbered {
             lines: Lines::new(alloc, capacity)?,
             next: 1,
@@ -35,12 +35,12 @@ impl Numbered {
     }
 
     /// The number of the next Insert.
-    pub fn next(&self) -> u32 {
+    pub(crate) fn next(&self) -> u32 {
         self.next
     }
 
     /// An Insert. None where it doesn't lie within a line, or all numbers are used up.
-    pub fn insert(&mut self, tag: u64, piece: &Piece) -> Option<Took> {
+    pub(crate) fn insert(&mut self, tag: u64, piece: &Piece) -> Option<Took> {
         if piece.addr % 64 + u64::from(piece.bytes.len()) > 64 || self.next == u32::MAX {
             return None;
         }
@@ -50,7 +50,7 @@ impl Numbered {
     }
 
     /// A Write. None where it isn't of a line.
-    pub fn write(&mut self, write: &LineWrite) -> Option<Drain> {
+    pub(crate) fn write(&mut self, write: &LineWrite) -> Option<Drain> {
         if write.line % 64 != 0 {
             return None;
         }
@@ -58,12 +58,12 @@ impl Numbered {
     }
 
     /// Part `k` of what the last Write drained.
-    pub fn part(&self, k: u32) -> Option<Part> {
+    pub(crate) fn part(&self, k: u32) -> Option<Part> {
         self.lines.part(k)
     }
 
     /// How many Inserts wait.
-    pub fn count(&self) -> usize {
+    pub(crate) fn count(&self) -> usize {
         self.lines.count()
     }
 }

@@ -11,7 +11,7 @@ pub struct Told {
 }
 
 /// What the calls since a moment answered, and how long they took.
-pub fn read(rt: &HostRuntime, since: &Instant, sum: u64) -> io::Result<Told> {
+pub(crate) fn read(rt: &HostRuntime, since: &Instant, sum: u64) -> io::Result<Told> {
     Ok(Told {
         sum,
         took: since.elapsed(rt)?,

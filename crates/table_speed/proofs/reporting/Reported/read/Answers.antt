@@ -1,0 +1,24 @@
+use Rattle.std.proofs.Common.{◌+◌, sym, subst, List}
+use Rattle.tandem_base.specs.declared.names.Position.{Position}
+use Rattle.tag_window.specs.declared.reports.Read.{Read}
+use Rattle.tag_window.specs.declared.reports.Early.{Early}
+use Rattle.tag_window.specs.Windows.{Tagged, AllEarlier, places_of_reads, places_of_bypasses}
+use Rattle.tag_window.proofs.Later.{at, all_next, reads_next}
+use Rattle.table_speed.proofs.reporting.Reported.read.Goals as goal
+
+pub read-took-requires : goal.read-took-requires
+read-took-requires c = record {
+  later = subst (λ (p : Position). AllEarlier p (places_of_reads c.self.inside.tags.reads)) (sym c.place-seen.ensures)
+      c.self.invariant.0;
+}
+
+pub invariant_of-self : goal.invariant_of-self
+invariant_of-self c = (
+  subst (λ (rs : List (Tagged Read)). AllEarlier (at (c.self.inside.next + 1)) (places_of_reads rs))
+      (sym c.read-took.ensures.reads)
+      (reads_next c.read-took.result c.self.inside.next c.args.tag _ c.self.inside.tags.reads c.place-seen.ensures
+      c.self.invariant.0),
+  subst (λ (bs : List (Tagged Early)). AllEarlier (at (c.self.inside.next + 1)) (places_of_bypasses bs))
+      (sym c.read-took.ensures.bypasses)
+      (all_next c.self.inside.next (places_of_bypasses c.self.inside.tags.bypasses) c.self.invariant.1),
+)
