@@ -1,2 +1,4 @@
 pub mod Judged
 pub mod Gathered
+pub mod FramesCut
+pub mod Accepted

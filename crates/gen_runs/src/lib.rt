@@ -2,6 +2,8 @@
 #![tactic(auto)]
 
 mod bytes;
+mod laws;
 mod verdict;
 
+pub use laws::unflipped_streams_are_accepted;
 pub use verdict::judge_made;

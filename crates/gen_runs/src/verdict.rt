@@ -1,7 +1,8 @@
 //! The verdict on a made stream.
 
-ghost use Rattle.std.specs.Prelude.{◌≡◌, IfOk};
+ghost use Rattle.std.specs.Prelude.{◌≡◌, IfOk, None};
 ghost use Rattle.elf_image.specs.Images.{loaded_of};
+ghost use Rattle.gen_runs.specs.Accepting.{made_accept};
 ghost use Rattle.gen_runs.specs.Verdicts.{flipped, made_bytes, made_verdict};
 ghost use Rattle.tandem_core.specs.Judgements.{judgement};
 ghost use Rattle.tandem_core.specs.Limits.{ceilings};
@@ -28,7 +29,7 @@ struct Stream {
 
 /// Makes the stream of 1 to 16 harts with `count` rounds each, at most 100,000 together, flips the
 /// lowest bit of the byte that is named, if there is one, and judges the stream. The limits are at
-/// their ceilings. An error is want of memory.
+/// their ceilings. A stream of which no byte is named is accepted. An error is want of memory.
 pub fn judge_made(
     alloc: Global,
     seed: u64,
@@ -37,7 +38,8 @@ pub fn judge_made(
     flip: Option<u64>,
 ) -> Result<Verdict, AllocError>
     requires { CanMake harts count }
-    ensures { IfOk result (λ verdict. verdict ≡ made_verdict seed harts count flip) }
+    ensures verdict { IfOk result (λ verdict. verdict ≡ made_verdict seed harts count flip) }
+    ensures accepted { IfOk result (λ verdict. flip ≡ None → verdict ≡ made_accept seed harts count) }
 {
     let stream = made_stream(alloc, seed, harts, count, flip)?;
     judge_bytes(alloc, &stream.image, &stream.bytes)

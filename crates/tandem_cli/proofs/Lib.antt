@@ -1,4 +1,5 @@
 pub mod FitLaws
+pub mod GenLaws
 pub mod TextLaws
 pub mod ProgramLaws
 pub mod NumberLaws

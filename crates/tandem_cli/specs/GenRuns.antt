@@ -4,6 +4,7 @@ use Rattle.std.specs.Fmt.{decimal}
 use Rattle.tandem_base.specs.Texts.{newline}
 use Rattle.verdict_report.specs.declared.verdict.Verdict.{Verdict}
 use Rattle.verdict_report.specs.Lines.{verdict_line}
+use Rattle.gen_runs.specs.Accepting.{made_accept}
 use Rattle.gen_runs.specs.Verdicts.{made_verdict}
 use Rattle.tandem_cli.specs.Answers.{Due, Prints, PrintsNothing, status_of_verdict}
 use Rattle.tandem_cli.specs.declared.gen_words.GenWords.{GenWords}
@@ -39,3 +40,9 @@ gen_due asked = due_for_made asked (made_verdict asked.seed asked.harts asked.co
 abbrev pub AnswersMade : GenWords → ℕ → Option (List ℕ) → Option (List ℕ) → ℕ → ℕ → Type 0
 AnswersMade asked result old new before after =
     PrintsNothing result old new ⊎ Prints (gen_due asked) result old new before after
+
+-- the same, where the verdict accepts what was made
+abbrev pub AnswersAccepted : GenWords → ℕ → Option (List ℕ) → Option (List ℕ) → ℕ → ℕ → Type 0
+AnswersAccepted asked result old new before after =
+    PrintsNothing result old new
+    ⊎ Prints (due_for_made asked (made_accept asked.seed asked.harts asked.count)) result old new before after

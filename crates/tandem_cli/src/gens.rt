@@ -3,7 +3,7 @@
 ghost use Rattle.std.specs.Prelude.{◌≡◌, ◌≤◌, None, Some, map};
 ghost use Rattle.std.specs.String.{string_bytes};
 ghost use Rattle.tandem_cli.specs.Answers.{Prints};
-ghost use Rattle.tandem_cli.specs.GenRuns.{AnswersMade, due_for_made, gen_usage_due};
+ghost use Rattle.tandem_cli.specs.GenRuns.{AnswersAccepted, AnswersMade, due_for_made, gen_usage_due};
 ghost use Rattle.tandem_cli.specs.GenWords.{gen_asked};
 ghost use Rattle.tandem_cli.specs.declared.gen_words.GenWords.{GenWords};
 ghost use Rattle.trace_gen.specs.Making.{CanMake};
@@ -18,8 +18,8 @@ use verdict_report::Verdict;
 
 /// Does all that `tandem gen` does, for the words after the program's name, with `gen` first: makes a
 /// stream of so many harts and rounds, flips the lowest bit of a byte where one is named, judges it by
-/// the same core as `check`, and writes what was made and the line of the verdict. It answers the
-/// status that the program ends with:
+/// the same core as `check`, and writes what was made and the line of the verdict. Where no byte is named
+/// the verdict is ACCEPT. It answers the status that the program ends with:
 ///
 /// - 0 ACCEPT, 1 REJECT, 5 UNDECIDED: the verdict on the stream;
 /// - 2 USAGE: the words are of another form, or there is no such stream;
@@ -34,6 +34,10 @@ pub fn run_gen<K: Sink>(alloc: Global, words: &[String], out: &mut K) -> u8
     ensures answer { (a : GenWords) → gen_asked (map string_bytes words.now) ≡ Some a →
         AnswersMade a result (K.written out.old) (K.written out.new) (K.faults out.old) (K.faults out.new) }
 
+    // What is made is accepted, where no byte is named.
+    ensures accepted { (a : GenWords) → gen_asked (map string_bytes words.now) ≡ Some a → a.flip ≡ None →
+        AnswersAccepted a result (K.written out.old) (K.written out.new) (K.faults out.old) (K.faults out.new) }
+
     ensures count { K.faults out.old ≤ K.faults out.new }
 {
     match parse_gen(words) {
@@ -46,6 +50,8 @@ pub fn run_gen<K: Sink>(alloc: Global, words: &[String], out: &mut K) -> u8
 fn judge_and_print<K: Sink>(alloc: Global, asked: &GenWords, out: &mut K) -> u8
     requires { CanMake asked.now.harts asked.now.count }
     ensures answer { AnswersMade asked.now result
+        (K.written out.old) (K.written out.new) (K.faults out.old) (K.faults out.new) }
+    ensures accepted { asked.now.flip ≡ None → AnswersAccepted asked.now result
         (K.written out.old) (K.written out.new) (K.faults out.old) (K.faults out.new) }
     ensures count { K.faults out.old ≤ K.faults out.new }
 {

@@ -1,5 +1,4 @@
-use Rattle.std.proofs.Common.{◌≡◌, ◌++◌, sym, ◌∙◌, ap}
-use Rattle.msg_frames.specs.Frames.{frame}
+use Rattle.std.proofs.Common.{sym, ◌∙◌}
 use Rattle.gen_runs.proofs.Gathered.{frames_more}
 use Rattle.gen_runs.proofs.bytes.gather.Goals as goal
 

@@ -1,0 +1,10 @@
+pub mod OneParts
+pub mod Uses
+pub mod Passes
+pub mod OperationCounts
+pub mod Recent
+pub mod FewEntries
+pub mod KeptFew
+pub mod OpenFew
+pub mod Stays
+pub mod InBounds
