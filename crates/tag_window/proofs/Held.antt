@@ -23,7 +23,7 @@ use Rattle.tag_window.specs.Order.{is_live, live_reports, arrivals_of_tag, AllBe
 use Rattle.tag_window.specs.Order.{slot_under, IsTagOrder}
 use Rattle.tag_window.specs.Order.{CameAt, NoneBefore, IsOldest}
 use Rattle.tag_window.specs.Slots.{tagged, AreIn, AllWithin, AreLinked, slot_with, no_read, no_bypass, place_of_read}
-use Rattle.tag_window.specs.Slots.{place_of_bypass, IsFirstMiss, IsFirstSame, earlier_position}
+use Rattle.tag_window.specs.Slots.{place_of_bypass, IsFirstWithout, IsFirstSame, earlier_position}
 use Rattle.tag_window.specs.Windows.{newest_under, read_counting, places_of_reads, places_of_bypasses}
 use Rattle.tag_window.specs.Windows.{AllEarlier, Among}
 use Rattle.tag_window.specs.Windows.{NoneEarlier, IsEarliest, IsInPart, IsLowestMissing}
@@ -272,41 +272,54 @@ module _ (order : TagOrder) (items : List Read) (s : IsTagOrder order) (h : AreI
       ∙ ap place_of_read q ∙ r) in
       sym a.2 ∙ ap (λ (c : Arrival). c.slot) one ∙ b.2
 
-  pub part_of : (addr len k j : ℕ) (slots : List ℕ)
-      → ((i : ℕ) → i < len → Some (get_or slots i 0) ≡ slot_with (addr + i) items (arrivals_of_tag tag
+  -- the same, where each was found
+  one_slot : (x y : ℕ) (o p : Option ℕ) → o ≡ slot_with x items (arrivals_of_tag tag (live_reports order))
+      → p ≡ slot_with y items (arrivals_of_tag tag (live_reports order)) → is_some o ≡ true → is_some p ≡ true
+      → option_map (λ k. get_or items k no_read) o ≡ option_map (λ k. get_or items k no_read) p → o ≡ p
+  one_slot x y None p e f l m q = cc
+  one_slot x y (Some k) None e f l m q = cc
+  one_slot x y (Some k) (Some l) e f _ _ q =
+      let same : get_or items k no_read ≡ get_or items l no_read = cc in
+      ap (λ (n : ℕ). Some n) (one_read x y k l e f same)
+
+  mapped : (o : Option ℕ) → is_some (option_map (λ k. get_or items k no_read) o) ≡ is_some o
+  mapped None = refl
+  mapped (Some k) = refl
+
+  pub part_of : (addr len k j : ℕ) (slots : List (Option ℕ))
+      → ((i : ℕ) → i < len → get_or slots i None ≡ slot_with (addr + i) items (arrivals_of_tag tag
       (live_reports order)))
+      → ((i : ℕ) → i < len → is_some (get_or slots i None) ≡ true)
       → k < len → IsFirstSame slots k j → IsInPart tag addr (tagged no_read items (live_reports order)) k j
-  part_of addr len k j slots found l f =
+  part_of addr len k j slots found whole l f =
       let here = found k l in
       let there = found j (omega (arith, l, f.upto)) in
-      let mine_counts = counts_by (addr + k) (Some (get_or slots k 0)) here in
+      let mine_counts = counts_by (addr + k) (get_or slots k None) here in
       record {
-        counts = ap is_some (sym mine_counts);
+        counts = ap is_some (sym mine_counts) ∙ mapped (get_or slots k None) ∙ whole k l;
         upto = f.upto;
-        same = sym (counts_by (addr + j) (Some (get_or slots j 0)) there)
-            ∙ ap (λ (n : ℕ). Some (get_or items n no_read)) f.same ∙ mine_counts;
+        same = sym (counts_by (addr + j) (get_or slots j None) there)
+            ∙ ap (option_map (λ n. get_or items n no_read)) f.same ∙ mine_counts;
         lowest = λ i m e. (
-            let other = found i (omega (arith, l, m, f.upto)) in
-            let both : Some (get_or items (get_or slots i 0) no_read) ≡ Some (get_or items (get_or slots k 0) no_read) =
-            counts_by (addr + i) (Some (get_or slots i 0)) other ∙ e ∙ sym mine_counts in
-            let same : get_or items (get_or slots i 0) no_read ≡ get_or items (get_or slots k 0) no_read = cc in
-            f.lowest i m (one_read (addr + i) (addr + k) (get_or slots i 0) (get_or slots k 0) other here same));
+            let inside : i < len = omega (arith, l, m, f.upto) in
+            let both = counts_by (addr + i) (get_or slots i None) (found i inside) ∙ e ∙ sym mine_counts in
+            f.lowest i m (one_slot (addr + i) (addr + k) (get_or slots i None) (get_or slots k None)
+            (found i inside) here (whole i inside) (whole k l) both));
       }
 
-  pub lowest_missing : (head : Option ℕ) → IsTagChain (get order.links) head (arrivals_of_tag tag (live_reports order))
-      → (extent : Extent)
-      → (at : ℕ) → IsFirstMiss order.links head items extent at
-      → IsLowestMissing tag extent (tagged no_read items (live_reports order)) at
-  lowest_missing head chain extent at f = record {
-    inside = inside_is extent at f.k f.inside f.is;
-    missing = sym (counts_by at None (f.misses (arrivals_of_tag tag (live_reports order)) chain));
+  pub lowest_missing : (extent : Extent) (k : ℕ) (slots : List (Option ℕ))
+      → ((i : ℕ) → i < extent.len → get_or slots i None ≡ slot_with (extent.addr + i) items (arrivals_of_tag tag
+      (live_reports order)))
+      → IsFirstWithout slots extent.len k
+      → IsLowestMissing tag extent (tagged no_read items (live_reports order)) (extent.addr + k)
+  lowest_missing extent k slots found f = record {
+    inside = inside_is extent (extent.addr + k) k f.inside refl;
+    missing = sym (counts_by (extent.addr + k) None (sym f.without ∙ found k f.inside));
     lowest = λ x l m. (
-        let i = f.finds (x - extent.addr) (omega (arith, l, m, f.is)) in
-        let here : Some i.0 ≡ slot_with (extent.addr + (x - extent.addr)) items (arrivals_of_tag tag
-        (live_reports order)) =
-        i.1 (arrivals_of_tag tag (live_reports order)) chain in
-        let there : Some i.0 ≡ slot_with x items (arrivals_of_tag tag (live_reports order)) =
-        subst (λ (n : ℕ). Some i.0 ≡ slot_with n items (arrivals_of_tag tag (live_reports order))) (omega
-        (arith, l)) here in
-        ap is_some (sym (counts_by x (Some i.0) there)));
+        let i : x - extent.addr < k = omega (arith, l, m) in
+        let inside : x - extent.addr < extent.len = omega (arith, i, f.inside) in
+        let here = subst (λ (n : ℕ). get_or slots (x - extent.addr) None ≡ slot_with n items (arrivals_of_tag tag
+        (live_reports order))) (omega (arith, l)) (found (x - extent.addr) inside) in
+        ap is_some (sym (counts_by x (get_or slots (x - extent.addr) None) here))
+        ∙ mapped (get_or slots (x - extent.addr) None) ∙ f.lowest (x - extent.addr) i);
   }

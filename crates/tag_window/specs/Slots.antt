@@ -1,8 +1,7 @@
 -- What stands in the slots of the reports that are there.
-use Rattle.std.specs.Prelude.{ℕ, ◌≡◌, ◌≢◌, ◌+◌, ◌<◌, ◌≤◌, List, [], ◌∷◌, length, map, Option, None, Some, slice_index}
-use Rattle.std.specs.Prelude.{slice_index_or, if◌then◌else◌}
+use Rattle.std.specs.Prelude.{ℕ, ◌≡◌, ◌≢◌, ◌<◌, ◌≤◌, Bool, true, List, [], ◌∷◌, length, map, Option, None, Some}
+use Rattle.std.specs.Prelude.{is_some, slice_index_or, if◌then◌else◌}
 use Rattle.tandem_base.specs.Places.{comes_before}
-use Rattle.tandem_base.specs.declared.extent.Extent.{Extent}
 use Rattle.tandem_base.specs.declared.names.Position.{Position}
 use Rattle.byte_memory.specs.declared.capture.Capture.{Capture}
 use Rattle.slab.specs.Slab.{Slab, get, slab_len}
@@ -65,29 +64,26 @@ slot_with x items [] = None
 slot_with x items (a ∷ cs) =
     if has (slice_index_or items a.slot no_read).piece x then Some a.slot else slot_with x items cs
 
--- the first of the linked Reads that has the byte at x is in this slot
-abbrev pub FindsAt : Slab Link → Option ℕ → List Read → ℕ → ℕ → Type 0
-FindsAt links head items x slot = (cs : List Arrival) → IsTagChain (get links) head cs
-    → Some slot ≡ slot_with x items cs
+-- the first of the linked Reads that has the byte at x is in this slot, None where none has it
+abbrev pub FindsAt : Slab Link → Option ℕ → List Read → ℕ → Option ℕ → Type 0
+FindsAt links head items x slot = (cs : List Arrival) → IsTagChain (get links) head cs → slot ≡ slot_with x items cs
 
--- none of the linked Reads has the byte at x
-abbrev pub MissesAt : Slab Link → Option ℕ → List Read → ℕ → Type 0
-MissesAt links head items x = (cs : List Arrival) → IsTagChain (get links) head cs → None ≡ slot_with x items cs
+-- the slot of a byte, once a Read in this one was seen that has the byte or not: the first such stays
+abbrev pub noted : Bool → ℕ → Option ℕ → Option ℕ
+noted has slot None = if has then Some slot else None
+noted has slot (Some first) = Some first
 
--- none of the linked Reads has the byte of the extent at `at`, and each byte before it one of them has
-pub record IsFirstMiss (links : Slab Link) (head : Option ℕ) (items : List Read) (extent : Extent) (at : ℕ) : Type 0
-  where
-    pub k : ℕ
-    pub inside : k < extent.len
-    pub is : at ≡ extent.addr + k
-    pub misses : MissesAt links head items at
-    pub finds : (i : ℕ) → i < k → (slot : ℕ) × FindsAt links head items (extent.addr + i) slot
+-- k is the lowest of so many numbers that has no slot
+pub record IsFirstWithout (slots : List (Option ℕ)) (len k : ℕ) : Type 0 where
+  pub inside : k < len
+  pub without : slice_index_or slots k None ≡ None
+  pub lowest : (i : ℕ) → i < k → is_some (slice_index_or slots i None) ≡ true
 
 -- j is the lowest number up to k with the same slot as k
-pub record IsFirstSame (slots : List ℕ) (k j : ℕ) : Type 0 where
+pub record IsFirstSame (slots : List (Option ℕ)) (k j : ℕ) : Type 0 where
   pub upto : j ≤ k
-  pub same : slice_index slots j ≡ slice_index slots k
-  pub lowest : (i : ℕ) → i < j → slice_index slots i ≢ slice_index slots k
+  pub same : slice_index_or slots j None ≡ slice_index_or slots k None
+  pub lowest : (i : ℕ) → i < j → slice_index_or slots i None ≢ slice_index_or slots k None
 
 -- the earlier of two places, where there are two
 abbrev pub earlier_position : Option Position → Option Position → Option Position

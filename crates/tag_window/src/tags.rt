@@ -192,15 +192,16 @@ impl Tags {
         ensures missing { IfMissing result (λ at. IsLowestMissing tag extent.now self.now.reads at) }
     {
         let head = newest::slot_of(&self.reads.newest, tag);
-        let mut slots = [0; 8];
-        match counting::slots_of(
+        let mut slots = [None; 8];
+        counting::slots_of(
             &self.reads.links,
             &self.read_items,
             head,
             extent,
             &mut slots,
-        ) {
-            Some(at) => Counting::Missing(at),
+        );
+        match counting::first_without(&slots, extent.len) {
+            Some(k) => Counting::Missing(extent.addr + u64::from(k)),
             None => Counting::All(counting::parts_of(&slots, extent.len)),
         }
     }

@@ -1,4 +1,4 @@
-use Rattle.std.proofs.Common.{subst}
+use Rattle.std.proofs.Common.{ℕ, ◌+◌, subst, sym}
 use Rattle.std.specs.List.{slice_index}
 use Rattle.tag_window.specs.Order.{live_reports, arrivals_of_tag}
 use Rattle.tag_window.specs.Slots.{no_read, place_of_read}
@@ -6,8 +6,8 @@ use Rattle.tag_window.specs.Windows.{Window, IsInPart, IsLowestMissing}
 use Rattle.tag_window.proofs.Held.{linked, chain_from, part_of, lowest_missing}
 use Rattle.tag_window.proofs.tags.Tags.counting.Goals as goal
 
-pub slots_of-requires : goal.slots_of-requires
-slots_of-requires c =
+pub slots_of-requires-clause-linked : goal.slots_of-requires-clause-linked
+slots_of-requires-clause-linked c =
     let t = c.self.inside in
     linked place_of_read no_read t.reads t.read_items.items c.self.invariant.0 c.self.invariant.2 c.args.tag
     c.slot_of-head.result c.slot_of-head.ensures
@@ -18,12 +18,12 @@ returns-in-None-clause-all c = λ k l.
     let v = c.self.invariant in
     let chain = chain_from place_of_read no_read t.reads t.read_items.items v.0 v.2 c.args.tag c.slot_of-head.result
     c.slot_of-head.ensures in
-    let found = (c.in-None.ensures {u = tt}).found in
     subst (λ (w : Window). IsInPart c.args.tag c.args.extent.now.addr w.reads k (slice_index c.parts_of.result k))
     c.self.view_is
     (part_of t.reads t.read_items.items v.0 v.2 c.args.tag c.args.extent.now.addr c.args.extent.now.len k
     (slice_index c.parts_of.result k) c.slots_of.new.slots
-    (λ i m. found i m (arrivals_of_tag c.args.tag (live_reports t.reads)) chain) l (c.parts_of.ensures k l))
+    (λ i m. c.slots_of.ensures i m (arrivals_of_tag c.args.tag (live_reports t.reads)) chain)
+    ((c.in-None.ensures {u = tt}).none) l (c.parts_of.ensures k l))
 
 pub returns-in-Some-clause-missing : goal.returns-in-Some-clause-missing
 returns-in-Some-clause-missing c =
@@ -31,6 +31,11 @@ returns-in-Some-clause-missing c =
     let v = c.self.invariant in
     let chain = chain_from place_of_read no_read t.reads t.read_items.items v.0 v.2 c.args.tag c.slot_of-head.result
     c.slot_of-head.ensures in
-    subst (λ (w : Window). IsLowestMissing c.args.tag c.args.extent.now w.reads c.in-Some.at) c.self.view_is
-    (lowest_missing t.reads t.read_items.items v.0 v.2 c.args.tag c.slot_of-head.result chain c.args.extent.now
-    c.in-Some.at (c.in-Some.ensures {u = tt}).missing)
+    subst (λ (n : ℕ). IsLowestMissing c.args.tag c.args.extent.now c.args.self.now.reads (c.args.extent.now.addr + n))
+    (sym c.from.ensures)
+    (subst (λ (w : Window). IsLowestMissing c.args.tag c.args.extent.now w.reads
+    (c.args.extent.now.addr + c.in-Some.k)) c.self.view_is
+    (lowest_missing t.reads t.read_items.items v.0 v.2 c.args.tag c.args.extent.now c.in-Some.k
+    c.slots_of.new.slots
+    (λ i m. c.slots_of.ensures i m (arrivals_of_tag c.args.tag (live_reports t.reads)) chain)
+    ((c.in-Some.ensures {u = tt}).first)))
