@@ -1,0 +1,17 @@
+pub mod Answered
+pub mod ByteMarks
+pub mod Candidates
+pub mod Drains
+pub mod FenceTags
+pub mod FirstTold
+pub mod KeptMarks
+pub mod KeptTwo
+pub mod LatestOver
+pub mod MarkedRules
+pub mod OpenLrKept
+pub mod OverlapRule
+pub mod Reported
+pub mod Rule2
+pub mod SourceRules
+pub mod Stale
+pub mod TwoMarkLaws

@@ -1,0 +1,6 @@
+use Rattle.rule_laws.proofs.firsts.first_is_latest.Goals as goal
+use Rattle.rule_laws.proofs.FirstTold.{first_is_latest}
+
+-- the lemma is the law
+pub returns : goal.returns
+returns c = first_is_latest

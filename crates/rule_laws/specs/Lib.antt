@@ -1,0 +1,14 @@
+pub mod Above
+pub mod AnswerLaws
+pub mod ByteMarkLaws
+pub mod Drained
+pub mod Fences
+pub mod FirstLaws
+pub mod Firsts
+pub mod MarkedOps
+pub mod OpenLrs
+pub mod Own
+pub mod RunningLaws
+pub mod Sourced
+pub mod TwoMarks
+pub mod WriteLaws
