@@ -1,5 +1,5 @@
 -- What is chosen is the source.
-use Rattle.std.proofs.Common.{ℕ, ◌+◌, ◌-◌, ◌<◌, ◌≡◌, true, List, Option, Some, None, sym, ap, subst, ◌∙◌}
+use Rattle.std.proofs.Common.{ℕ, ◌+◌, ◌-◌, ◌<◌, ◌≡◌, true, List, Option, Some, None, refl, sym, ap, subst, ◌∙◌}
 use Rattle.std.proofs.Common.{slice_index, slice_index_or, arith}
 use Rattle.std.proofs.lemmas.Bool.{both_ways, and_from, and_parts}
 use Rattle.std.proofs.lemmas.Bool.Decides.{nat_tests}
@@ -14,10 +14,14 @@ use Rattle.tandem_base.specs.declared.names.Position.{Position}
 use Rattle.tandem_base.specs.Extents.{is_among}
 use Rattle.tandem_base.specs.declared.extent.Extent.{Extent}
 use Rattle.window_laws.specs.Captures.{IsStoredBefore, TellsByte, IsCaptureOf}
+use Rattle.window_laws.specs.Waiting.{IsLatestWaiting}
 use Rattle.window_laws.specs.ToldSources.{IsKeptAfter, IsLatestKept, waiting_source}
 use Rattle.tandem_base.specs.declared.names.Place.{Place}
 use Rattle.window_laws.proofs.ToldSources.{sources_are_told}
-use Rattle.reads_from.specs.declared.choice.WaitingByte.{WaitingByte}
+use Rattle.store_buffer.specs.declared.pending.Pending.{Pending}
+use Rattle.store_buffer.specs.Stores.{StoreList}
+use Rattle.store_buffer.specs.Waiting.{AreRetired, waiting_bytes, pending_in, IsGreatestWaiting}
+use Rattle.store_buffer.proofs.WaitingBytes.{pending_is, pending_hart, waits_under}
 use Rattle.reads_from.specs.Choice.{source_chosen, TellsSource}
 
 -- the capture's byte at x
@@ -48,23 +52,40 @@ module _ (ops : List KeptOp) (place : Position) (x : ℕ) where
         latest = λ n c. h.2 n c.here (passes n c);
       }
 
-pub chosen_tells : (waiting : Option WaitingByte) (table : KeptTable) (found : Option KeptOp) (seen : Capture) (x : ℕ)
-    → ((loads : List KeptOp) → KnowsLatest table x loads
-    → IsLatestThat (passes_over (stores_at x) seen.place) table.ops found)
-    → TellsSource waiting table seen x (source_chosen waiting found seen x)
-chosen_tells (Some w) table found seen x latest initial t t' b a =
-    let f = a.found_waiting in
-    sym (sources_are_told.waiting initial t t' a.r b a.place x w.tag w.byte a.bytes a.kinded a.new a.waits f.1
-    ∙ ap (λ (h : ℕ). waiting_source h w.tag w.byte) (sym f.0))
-chosen_tells None table (Some m) seen x latest initial t t' b a =
-    sym (sources_are_told.kept initial t t' a.r b a.place a.oldest x a.bytes table.ops m a.kinded a.new a.positioned
-    a.since a.waits a.found_waiting a.keeps
-    (subst (λ (p : Position). IsLatestKept table.ops p x m) a.captured.taken
-    (latest_kept table.ops seen.place x m (latest a.loads a.knows))))
-chosen_tells None table None seen x latest initial t t' b a =
-    sym (sources_are_told.captured initial t t' a.r b a.place a.oldest x a.bytes table.ops
-    (slice_index_or seen.last (x - seen.base) None) (slice_index seen.values (x - seen.base)) a.kinded a.new
-    a.positioned a.since a.waits a.found_waiting a.keeps
-    (subst (λ (p : Position). (m : KeptOp) → IsKeptAfter table.ops p x m → ⊥) a.captured.taken
-    (none_kept table.ops seen.place x (latest a.loads a.knows)))
-    (byte_seen initial t a.place a.extent seen x a.captured a.inside))
+-- by what waits
+module _ (stores : StoreList) (table : KeptTable) (seen : Capture) (x : ℕ) where
+  by_waiting : (waiting : Option Pending) (found : Option KeptOp) → pending_in stores.hart stores.stores x ≡ waiting
+      → IsGreatestWaiting (waiting_bytes stores.stores) x waiting
+      → ((loads : List KeptOp) → KnowsLatest table x loads
+      → IsLatestThat (passes_over (stores_at x) seen.place) table.ops found)
+      → TellsSource stores table seen x (source_chosen waiting found seen x)
+  by_waiting (Some w) found q g latest initial t t' b a =
+      let bytes = waiting_bytes stores.stores in
+      let last : IsLatestWaiting bytes a.r.tag x w.tag w.byte = record {
+        here = g.0;
+        inside = waits_under a.r.tag w.tag x w.byte stores.stores a.before g.0;
+        latest = λ k l m. g.1 k l;
+      } in
+      sym (sources_are_told.waiting initial t t' a.r b a.place x w.tag w.byte bytes a.kinded a.new a.waits last
+      ∙ ap (λ (h : ℕ). waiting_source h w.tag w.byte)
+      (sym (pending_hart stores.hart x stores.stores w q ∙ a.hart)))
+  by_waiting None (Some m) q g latest initial t t' b a =
+      sym (sources_are_told.kept initial t t' a.r b a.place a.oldest x (waiting_bytes stores.stores) table.ops m
+      a.kinded a.new a.positioned a.since a.waits (λ tag l. g tag) a.keeps
+      (subst (λ (p : Position). IsLatestKept table.ops p x m) a.captured.taken
+      (latest_kept table.ops seen.place x m (latest a.loads a.knows))))
+  by_waiting None None q g latest initial t t' b a =
+      sym (sources_are_told.captured initial t t' a.r b a.place a.oldest x (waiting_bytes stores.stores) table.ops
+      (slice_index_or seen.last (x - seen.base) None) (slice_index seen.values (x - seen.base)) a.kinded a.new
+      a.positioned a.since a.waits (λ tag l. g tag) a.keeps
+      (subst (λ (p : Position). (m : KeptOp) → IsKeptAfter table.ops p x m → ⊥) a.captured.taken
+      (none_kept table.ops seen.place x (latest a.loads a.knows)))
+      (byte_seen initial t a.place a.extent seen x a.captured a.inside))
+
+  pub chosen_tells : AreRetired stores.stores → (found : Option KeptOp)
+      → ((loads : List KeptOp) → KnowsLatest table x loads
+      → IsLatestThat (passes_over (stores_at x) seen.place) table.ops found)
+      → TellsSource stores table seen x (source_chosen (pending_in stores.hart stores.stores x) found seen x)
+  chosen_tells retired found latest =
+      by_waiting (pending_in stores.hart stores.stores x) found refl (pending_is stores.hart x stores.stores retired)
+      latest

@@ -16,11 +16,13 @@ use Rattle.kept_ops.specs.Tables.{KeptTable, KnowsLatest}
 use Rattle.window_laws.specs.declared.source.ByteSource.{ByteSource}
 use Rattle.window_laws.specs.Tables.{ArePositioned, source_told}
 use Rattle.window_laws.specs.Captures.{IsCaptureOf}
-use Rattle.window_laws.specs.Waiting.{AreWaiting, IsLatestWaiting}
+use Rattle.window_laws.specs.Waiting.{AreWaiting}
 use Rattle.window_laws.specs.Keeping.{AreKeptOps}
 use Rattle.window_laws.specs.SourceLaws.{IsNewAt}
-use Rattle.window_laws.specs.ToldSources.{NoneWaits, waiting_source, kept_source, memory_source}
-use Rattle.reads_from.specs.declared.choice.WaitingByte.{WaitingByte}
+use Rattle.window_laws.specs.ToldSources.{waiting_source, kept_source, memory_source}
+use Rattle.store_buffer.specs.declared.pending.Pending.{Pending}
+use Rattle.store_buffer.specs.Stores.{StoreList, AllTagged}
+use Rattle.store_buffer.specs.Waiting.{waiting_bytes}
 
 -- the byte of a capture at x, as a source
 abbrev pub captured_source : Capture → ℕ → ByteSource
@@ -28,29 +30,24 @@ captured_source seen x =
     memory_source (slice_index_or seen.last (x - seen.base) None) (slice_index seen.values (x - seen.base))
 
 -- what waits at x, else what is kept, else what was captured
-abbrev pub source_chosen : Option WaitingByte → Option KeptOp → Capture → ℕ → ByteSource
+abbrev pub source_chosen : Option Pending → Option KeptOp → Capture → ℕ → ByteSource
 source_chosen (Some w) kept seen x = waiting_source w.hart w.tag w.byte
 source_chosen None (Some m) seen x = kept_source m x
 source_chosen None None seen x = captured_source seen x
 
--- it is the byte at x that waits on this hart under the greatest tag below the bound, or none waits below it
-abbrev pub IsFoundWaiting : (ℕ → ℕ → Option ℕ) → ℕ → ℕ → ℕ → Option WaitingByte → Type 0
-IsFoundWaiting waiting hart below x None = NoneWaits waiting below x
-IsFoundWaiting waiting hart below x (Some w) = (w.hart ≡ hart) × IsLatestWaiting waiting below x w.tag w.byte
-
 -- an instruction r retires, and b is an operation of it that was performed at the place; the tables stand for the trace
--- before, and this is what waits at byte x, what is kept, and what the report of b saw
-pub record IsAsked (initial : ℕ → ℕ) (t t' : Trace) (b : Op) (waiting : Option WaitingByte) (kept : KeptTable)
-    (seen : Capture) (x : ℕ) : Type 0 where
+-- before: the stores of the hart, what is kept of it, and what the report of b saw, which has byte x
+pub record IsAsked (initial : ℕ → ℕ) (t t' : Trace) (b : Op) (stores : StoreList) (kept : KeptTable) (seen : Capture)
+    (x : ℕ) : Type 0 where
   pub kinded : WellKinded t
   pub r : Retired
   pub place : Place
   pub new : IsNewAt t t' r b place
   pub positioned : ArePositioned t'
-  -- what waits of the hart
-  pub bytes : ℕ → ℕ → Option ℕ
-  pub waits : AreWaiting t r.hart bytes
-  pub found_waiting : IsFoundWaiting bytes r.hart r.tag x waiting
+  -- the stores of the hart, which retired before r
+  pub hart : stores.hart ≡ r.hart
+  pub before : AllTagged r.tag stores.stores
+  pub waits : AreWaiting t r.hart (waiting_bytes stores.stores)
   -- what is kept of it, after a place that isn't after that of b
   pub oldest : Place
   pub since : earlier place oldest ≡ false
@@ -64,6 +61,6 @@ pub record IsAsked (initial : ℕ → ℕ) (t t' : Trace) (b : Op) (waiting : Op
 
 -- whatever trace the tables stand for, the answer is the source of byte x of the operation: its hart and tag, its place
 -- and its byte
-abbrev pub TellsSource : Option WaitingByte → KeptTable → Capture → ℕ → ByteSource → Type 0
-TellsSource waiting kept seen x answer = (initial : ℕ → ℕ) (t t' : Trace) (b : Op)
-    → IsAsked initial t t' b waiting kept seen x → answer ≡ source_told initial (source t' b x) x
+abbrev pub TellsSource : StoreList → KeptTable → Capture → ℕ → ByteSource → Type 0
+TellsSource stores kept seen x answer = (initial : ℕ → ℕ) (t t' : Trace) (b : Op)
+    → IsAsked initial t t' b stores kept seen x → answer ≡ source_told initial (source t' b x) x

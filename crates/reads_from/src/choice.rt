@@ -6,22 +6,12 @@ ghost use Rattle.reads_from.specs.Choice.{TellsSource, captured_source, source_c
 
 use byte_memory::Capture;
 use kept_ops::{Kept, KeptOp};
+use store_buffer::{Pending, Stores};
 use tandem_base::{Bytes8, Origin};
 use window_laws::ByteSource;
 
-/// A byte of a store of a hart that wasn't performed.
-#[derive(Clone, Copy, Debug, PartialEq, Eq)]
-pub struct WaitingByte {
-    /// The hart.
-    pub hart: u8,
-    /// The tag of the store.
-    pub tag: u64,
-    /// The byte.
-    pub byte: u8,
-}
-
 /// A byte that waits, as a source.
-fn of_waiting(waiting: WaitingByte) -> ByteSource
+fn of_waiting(waiting: Pending) -> ByteSource
     ensures { result ≡ waiting_source waiting.hart waiting.tag waiting.byte }
 {
     ByteSource {
@@ -84,12 +74,7 @@ fn of_capture(seen: &Capture, addr: u64) -> ByteSource
 }
 
 /// What waits, else what is kept, else what was captured.
-fn choose(
-    waiting: Option<WaitingByte>,
-    kept: Option<&KeptOp>,
-    seen: &Capture,
-    addr: u64,
-) -> ByteSource
+fn choose(waiting: Option<Pending>, kept: Option<&KeptOp>, seen: &Capture, addr: u64) -> ByteSource
     requires from { seen.now.base ≤ addr }
     requires to { addr < seen.now.base + 8 }
     ensures { result ≡ source_chosen waiting (option_copied kept.entry) seen.now addr }
@@ -106,11 +91,16 @@ fn choose(
 /// The source of the byte at `addr` of an operation that an instruction adds when it retires, by the
 /// load value axiom: the byte that waits of the latest earlier store of its hart, else that of the latest
 /// kept store of its hart after it, else what its report saw. The byte is one of the report's.
-pub fn source_of(waiting: Option<WaitingByte>, kept: &Kept, seen: &Capture, addr: u64) -> ByteSource
+pub fn source(seen: &Capture, stores: &Stores, kept: &Kept, addr: u64) -> ByteSource
     // A capture has the bytes of its report.
     requires from { seen.now.base ≤ addr }
     requires to { addr < seen.now.base + 8 }
-    ensures { TellsSource waiting kept.now seen.now addr result }
+    ensures { TellsSource stores.now kept.now seen.now addr result }
 {
-    choose(waiting, kept.store_over(addr, seen.place), seen, addr)
+    choose(
+        stores.pending_at(addr),
+        kept.store_over(addr, seen.place),
+        seen,
+        addr,
+    )
 }

@@ -2,8 +2,10 @@
 #![tactic(auto)]
 
 mod choice;
+mod laws;
 
-pub use choice::{WaitingByte, source_of};
+pub use choice::source;
+pub use laws::{stores_gain_what_retires, stores_lose_what_is_performed, stores_stay};
 
 #[cfg(test)]
 mod tests;

@@ -2,11 +2,14 @@
 
 ghost use Rattle.std.specs.Prelude.{◌<◌};
 
-use crate::{WaitingByte, source_of};
+use crate::source;
 use byte_memory::{Capture, Writer};
 use kept_ops::{Kept, KeptOp};
+use msg_frames::Piece;
 use rvwmo_model::OpKind;
+use std::alloc::Global;
 use std::test::Fail;
+use store_buffer::{StoreMarks, Stores};
 use tandem_base::{Bytes8, Extent, OpName, Origin, Position};
 use window_laws::ByteSource;
 
@@ -18,13 +21,7 @@ fn place(message: u32, insert: u32) -> Position {
 
 /// The source of byte `k` from X up, for a report at message 7 that saw one value, by one last writer or
 /// none, in the first four bytes of the doubleword at X, and zeros behind them.
-fn source_at(
-    waiting: Option<WaitingByte>,
-    kept: &Kept,
-    value: u8,
-    last: Option<Writer>,
-    k: u64,
-) -> ByteSource
+fn source_at(stores: &Stores, kept: &Kept, value: u8, last: Option<Writer>, k: u64) -> ByteSource
     requires { k < 8 }
 {
     let capture = Capture {
@@ -33,7 +30,7 @@ fn source_at(
         values: [value, value, value, value, 0, 0, 0, 0],
         last: [last, last, last, last, None, None, None, None],
     };
-    source_of(waiting, kept, &capture, X + k)
+    source(&capture, stores, kept, X + k)
 }
 
 /// A store of four bytes at X of hart 0 that was drained from Insert 9 by message 10.
@@ -55,8 +52,19 @@ fn drained(tag: u64, bytes: &[u8]) -> Result<KeptOp, Fail> {
     })
 }
 
-fn waits(tag: u64, byte: u8) -> Option<WaitingByte> {
-    Some(WaitingByte { hart: 0, tag, byte })
+/// The stores of hart 0, of which one of these four bytes at X waits.
+fn waits(alloc: Global, tag: u64, bytes: &[u8]) -> Result<Stores, Fail> {
+    let mut stores = Stores::new(alloc, 0, 2)?;
+    let marks = StoreMarks {
+        fence: None,
+        release: false,
+        lead: None,
+    };
+    let bytes = Bytes8::new(bytes).ok_or("no bytes")?;
+    if bytes.len() == 4 {
+        stores.retire(tag, &Piece { addr: X, bytes }, &marks);
+    }
+    Ok(stores)
 }
 
 fn from(hart: u8, tag: u64, place: Option<Position>, byte: u8) -> ByteSource {
@@ -70,17 +78,18 @@ fn from(hart: u8, tag: u64, place: Option<Position>, byte: u8) -> ByteSource {
 #[test]
 fn a_store_that_waits_is_forwarded(rt: HostRuntime) -> Result<(), Fail> {
     let mut kept = Kept::new(rt.alloc(), 2)?;
+    let none = Stores::new(rt.alloc(), 0, 2)?;
     assert_eq!(rt;
-        source_at(waits(1, 1), &kept, 0, None, 0),
+        source_at(&waits(rt.alloc(), 1, &[1, 2, 3, 4])?, &kept, 0, None, 0),
         from(0, 1, None, 1)
     );
     kept.keep(&drained(1, &[5, 6, 7, 8])?);
     assert_eq!(rt;
-        source_at(waits(2, 1), &kept, 0, None, 0),
+        source_at(&waits(rt.alloc(), 2, &[1, 2, 3, 4])?, &kept, 0, None, 0),
         from(0, 2, None, 1)
     );
     assert_eq!(rt;
-        source_at(None, &kept, 0, None, 2),
+        source_at(&none, &kept, 0, None, 2),
         from(0, 1, Some(place(10, 9)), 7)
     );
     Ok(())
@@ -94,16 +103,17 @@ fn what_was_seen_is_read_where_no_own_store_is_later(rt: HostRuntime) -> Result<
         byte: 0,
     };
     let kept = Kept::new(rt.alloc(), 2)?;
-    assert_eq!(rt; source_at(None, &kept, 0, None, 3), none);
+    let stores = Stores::new(rt.alloc(), 0, 2)?;
+    assert_eq!(rt; source_at(&stores, &kept, 0, None, 3), none);
     let other = Writer {
         hart: 1,
         tag: 4,
         place: place(6, 5),
     };
     assert_eq!(rt;
-        source_at(None, &kept, 9, Some(other), 3),
+        source_at(&stores, &kept, 9, Some(other), 3),
         from(1, 4, Some(place(6, 5)), 9)
     );
-    assert_eq!(rt; source_at(None, &kept, 9, Some(other), 4), none);
+    assert_eq!(rt; source_at(&stores, &kept, 9, Some(other), 4), none);
     Ok(())
 }

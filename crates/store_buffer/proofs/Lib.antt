@@ -1,4 +1,5 @@
 pub mod Answered
+pub mod Finding
 pub mod Given
 pub mod Inside
 pub mod Newest
@@ -8,3 +9,4 @@ pub mod Room
 pub mod Slotted
 pub mod Values
 pub mod Waits
+pub mod WaitingBytes

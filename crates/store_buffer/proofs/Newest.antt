@@ -103,11 +103,11 @@ module _ (g : Store → Store) (keeps : (s : Store) → (g s).tag ≡ s.tag) whe
 -- ---- those that pass a test
 
 -- none has a tag above this one
-abbrev AllUpTo : ℕ → List Store → Type 0
+abbrev pub AllUpTo : ℕ → List Store → Type 0
 AllUpTo tag [] = Unit {0}
 AllUpTo tag (s ∷ ss) = (s.tag ≤ tag) × AllUpTo tag ss
 
-abbrev Falls : List Store → Type 0
+abbrev pub Falls : List Store → Type 0
 Falls [] = Unit {0}
 Falls (s ∷ ss) = AllUpTo s.tag ss × Falls ss
 
@@ -137,7 +137,7 @@ put_falls s (t ∷ ts) f = at (nat_lt t.tag s.tag) refl (put_falls s ts f.1)
         let l : s.tag ≤ t.tag = grind (arith, nat_tests, e) in
         (put_up_to t.tag s ts l f.0, r)
 
-newest_falls : (ss : List Store) → Falls (newest_first ss)
+pub newest_falls : (ss : List Store) → Falls (newest_first ss)
 newest_falls [] = tt
 newest_falls (s ∷ ss) = put_falls s (newest_first ss) (newest_falls ss)
 

@@ -67,7 +67,7 @@ lowest_same p q (suc n) s =
 
 -- ---- bytes of a store
 
-each_state : (f : ℕ → ByteState) (s : Store) (k : ℕ) → k < 8 → state_of (with_each f s) k ≡ f k
+pub each_state : (f : ℕ → ByteState) (s : Store) (k : ℕ) → k < 8 → state_of (with_each f s) k ≡ f k
 each_state f s zero l = refl
 each_state f s (suc zero) l = refl
 each_state f s (suc (suc zero)) l = refl

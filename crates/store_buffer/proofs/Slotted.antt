@@ -1,5 +1,5 @@
 -- Stores in their slots: what is found, and what a change leaves.
-use Rattle.std.proofs.Common.{ℕ, suc, ◌≡◌, ◌≢◌, ◌+◌, ◌<◌, ◌≤◌, ◌⊎◌, ◌==◌, ◌^◌, inl, inr, not, List, [], ◌∷◌, ◌++◌}
+use Rattle.std.proofs.Common.{ℕ, suc, ◌≡◌, ◌≢◌, ◌+◌, ◌<◌, ◌≤◌, ◌⊎◌, ◌==◌, inl, inr, not, List, [], ◌∷◌, ◌++◌}
 use Rattle.std.proofs.Common.{length}
 use Rattle.std.proofs.Common.{get_or, set, Bool, true, false, Option, None, Some, IsSome, is_some, cond, count_by, refl}
 use Rattle.std.proofs.Common.{sym, ap, subst, ◌∙◌, arith, if◌then◌else◌}
@@ -14,7 +14,9 @@ use Rattle.store_buffer.specs.declared.store.ByteState.{ByteState}
 use Rattle.store_buffer.specs.declared.store.Store.{Store}
 use Rattle.store_buffer.specs.Store.{stays_open, with_states}
 use Rattle.store_buffer.specs.Stores.{AllTagged, store_of_tag, open_stores, given_states, all_given}
-use Rattle.store_buffer.specs.Slots.{newest_first, is_open_slot, is_done_slot, HasTagAt, AreSlotted}
+use Rattle.store_buffer.specs.Slots.{newest_first, is_open_slot, is_done_slot, HasTagAt, AreSlotted, FitsMemory}
+use Rattle.store_buffer.specs.Waiting.{AreRetired}
+use Rattle.store_buffer.proofs.Finding.{retired_in}
 use Rattle.store_buffer.proofs.Values.{map_values, filter_taken, filter_all}
 use Rattle.store_buffer.proofs.Newest.{none_of_tag, store_of_slot, newest_map, newest_filter, one_newest, open_counted}
 use Rattle.store_buffer.proofs.Newest.{each_tagged}
@@ -72,6 +74,10 @@ module _ (stores : Slab Store) (slots : KeyedEntries) (finished : List ℕ) (a :
   only_one i j s t e f q =
       let m : number_at slots s.tag ≡ Some j = subst (λ (n : ℕ). number_at slots n ≡ Some j) q (a.under j t f) in
       same_some (number_at slots s.tag) i j (a.under i s e) m
+
+  -- their tags fall
+  pub are_retired : AreRetired (newest_first (values stores))
+  are_retired = retired_in stores.slots (λ i s e. (a.fits i s e).0) only_one
 
   pub is_there : (tag i : ℕ) → number_at slots tag ≡ Some i → IsSome (get stores i)
   is_there tag i n = there_is (get stores i) (a.leads tag i n).store (a.leads tag i n).there
@@ -150,8 +156,7 @@ module _ (stores : Slab Store) (slots : KeyedEntries) (finished : List ℕ) (a :
       pub old : Store
       pub there : get stores k ≡ Some old
       pub tag : t.tag ≡ old.tag
-      pub fits : old.entry.piece.addr + length old.entry.piece.bytes ≤ 2 ^ 64
-          → t.entry.piece.addr + length t.entry.piece.bytes ≤ 2 ^ 64
+      pub fits : FitsMemory old → FitsMemory t
 
     was : (k : ℕ) (t : Store) → get after k ≡ Some t → Was k t
     was k t f = at (cases k i)
@@ -163,7 +168,7 @@ module _ (stores : Slab Store) (slots : KeyedEntries) (finished : List ℕ) (a :
               old = s;
               there = subst (λ (j : ℕ). get stores j ≡ Some s) (sym q) e;
               tag = ap (λ (u : Store). u.tag) (sym is);
-              fits = λ l. subst (λ (u : Store). u.entry.piece.addr + length u.entry.piece.bytes ≤ 2 ^ 64) is l;
+              fits = λ l. subst FitsMemory is l;
             }
         at (inr d) = record { old = t; there = sym (others k d) ∙ f; tag = refl; fits = λ l. l }
 
@@ -186,8 +191,7 @@ module _ (stores : Slab Store) (slots : KeyedEntries) (finished : List ℕ) (a :
         let w = was k t f in
         subst (λ (n : ℕ). number_at slots n ≡ Some k) (sym w.tag) (a.under k w.old w.there)
 
-    fits_after : (k : ℕ) (t : Store) → get after k ≡ Some t
-        → t.entry.piece.addr + length t.entry.piece.bytes ≤ 2 ^ 64
+    fits_after : (k : ℕ) (t : Store) → get after k ≡ Some t → FitsMemory t
     fits_after k t f =
         let w = was k t f in
         w.fits (a.fits k w.old w.there)
@@ -418,7 +422,7 @@ module _ (stores : Slab Store) (slots : KeyedEntries) (finished : List ℕ) (a :
       (u : Updates stores more i (Some s)) (l : slab_len more ≡ slab_len stores + 1)
       (n : (tag : ℕ) → number_at with_it tag ≡ put s.tag i slots.entries tag)
       (newest : AllTagged s.tag (newest_first (values stores))) (opens : stays_open s ≡ true)
-      (fits_it : s.entry.piece.addr + length s.entry.piece.bytes ≤ 2 ^ 64) where
+      (fits_it : FitsMemory s) where
     pub values_more : newest_first (values more) ≡ s ∷ newest_first (values stores)
     values_more = one_newest stores.slots more.slots i s none u.changed u.others newest
 
@@ -483,11 +487,10 @@ module _ (stores : Slab Store) (slots : KeyedEntries) (finished : List ℕ) (a :
             let x = before k t f d in
             put_other t.tag (apart k t x) ∙ a.under k t x
 
-        fits_more : (k : ℕ) (t : Store) → get more k ≡ Some t → (k ≡ i) ⊎ (k ≢ i)
-            → t.entry.piece.addr + length t.entry.piece.bytes ≤ 2 ^ 64
+        fits_more : (k : ℕ) (t : Store) → get more k ≡ Some t → (k ≡ i) ⊎ (k ≢ i) → FitsMemory t
         fits_more k t f (inl r) =
             let is : s ≡ t = same_store (get more i) s t u.changed (subst (λ (j : ℕ). get more j ≡ Some t) r f) in
-            subst (λ (x : Store). x.entry.piece.addr + length x.entry.piece.bytes ≤ 2 ^ 64) is fits_it
+            subst FitsMemory is fits_it
         fits_more k t f (inr d) = a.fits k t (before k t f d)
 
         at : (k : ℕ) → (k ≡ i) ⊎ (k ≢ i) → many k finished ≡ one (is_done_slot (get more k))

@@ -32,10 +32,14 @@ pub record HasTagAt (slots : List (Option Store)) (tag i : ℕ) : Type 0 where
   pub there : slice_index_or slots i None ≡ Some store
   pub is : store.tag ≡ tag
 
+-- the store has at most eight bytes, none of them past 2^64
+abbrev pub FitsMemory : Store → Type 0
+FitsMemory s = (length s.entry.piece.bytes ≤ 8) × (s.entry.piece.addr + length s.entry.piece.bytes ≤ 2 ^ 64)
+
 -- each store is found by its tag; those without an unperformed byte are listed, each once, and the others are the rest
 pub record AreSlotted (stores : Slab Store) (slots : KeyedEntries) (finished : List ℕ) : Type 0 where
   pub leads : (tag i : ℕ) → number_at slots tag ≡ Some i → HasTagAt stores.slots tag i
   pub under : (i : ℕ) (s : Store) → get stores i ≡ Some s → number_at slots s.tag ≡ Some i
-  pub fits : (i : ℕ) (s : Store) → get stores i ≡ Some s → s.entry.piece.addr + length s.entry.piece.bytes ≤ 2 ^ 64
+  pub fits : (i : ℕ) (s : Store) → get stores i ≡ Some s → FitsMemory s
   pub listed : (i : ℕ) → count_by (λ j. j == i) finished ≡ cond (is_done_slot (get stores i)) 1 0
   pub as_many : length finished + count_by is_open_slot stores.slots ≡ slab_len stores

@@ -11,8 +11,9 @@ use Rattle.store_buffer.specs.declared.parts.Taken.{Taken}
 use Rattle.store_buffer.specs.declared.parts.Taken.TheVariants as taken
 use Rattle.store_buffer.specs.Store.{with_states, stays_open}
 
--- the stores, the newest first, and how many may have an unperformed byte
+-- the hart, its stores, the newest first, and how many may have an unperformed byte
 pub record StoreList : Type 0 where
+  pub hart : ℕ
   pub stores : List Store
   pub capacity : ℕ
 

@@ -51,7 +51,7 @@ pub struct Store {
 }
 
 /// Whether a byte is performed.
-fn is_performed(state: ByteState) -> bool
+pub fn is_performed(state: ByteState) -> bool
     ensures { result ≡ Spec.is_done_byte state }
 {
     matches!(state, ByteState::Performed)
@@ -77,6 +77,7 @@ impl Store {
     pub fn new(tag: u64, piece: &Piece, marks: &StoreMarks) -> Store
         ensures value { result ≡ Spec.untouched_store tag piece.now marks.now }
         ensures opens { Spec.stays_open result ≡ true }
+        ensures sized { length piece.now.bytes ≤ 8 }
     {
         let _size = piece.bytes.len();
         Store {

@@ -7,7 +7,8 @@ use Rattle.store_buffer.specs.Stores.{StoreList, store_of_tag, all_given}
 use Rattle.store_buffer.proofs.Answered.{taken_is_new, refused_same}
 use Rattle.store_buffer.proofs.Given.{given_list, kept_slotted, kept_open, kept_len}
 use Rattle.store_buffer.proofs.Opens.{insert_opens}
-use Rattle.store_buffer.proofs.Slotted.{is_there, found, missing}
+use Rattle.store_buffer.specs.Waiting.{AreRetired}
+use Rattle.store_buffer.proofs.Slotted.{is_there, found, missing, are_retired}
 use Rattle.store_buffer.proofs.stores.Stores.insert.Goals as goal
 
 pub returns-in-None-clause-taken : goal.returns-in-None-clause-taken
@@ -23,7 +24,7 @@ store_at-requires c =
     (sym c.in-Some.ensures.number)
 
 pub answer-requires : goal.answer-requires
-answer-requires c = c.self.invariant.0.fits c.in-Some.at c.store_at.result.now c.store_at.ensures
+answer-requires c = (c.self.invariant.0.fits c.in-Some.at c.store_at.result.now c.store_at.ensures).1
 
 pub invariant_of-self : goal.invariant_of-self
 invariant_of-self c =
@@ -80,4 +81,15 @@ returns-in_default c =
       taken = c.answer.ensures ∙ is;
       stores = refused_same c.answer.result c.args.tag c.args.piece.now c.args.self.now.stores c.in_default.not-Yes;
       capacity = refl;
+      hart = refl;
+      retired = subst (λ (l : StoreList). AreRetired l.stores) c.self.view_is
+          (are_retired t.stores t.slots t.finished.items c.self.invariant.0);
     }
+
+pub returns-in-None-clause-retired : goal.returns-in-None-clause-retired
+returns-in-None-clause-retired c = subst (λ (l : StoreList). AreRetired l.stores) c.self.view_is
+    (are_retired c.self.inside.stores c.self.inside.slots c.self.inside.finished.items c.self.invariant.0)
+
+pub returns-in-Yes-clause-retired : goal.returns-in-Yes-clause-retired
+returns-in-Yes-clause-retired c = subst (λ (l : StoreList). AreRetired l.stores) c.self.view_is
+    (are_retired c.self.inside.stores c.self.inside.slots c.self.inside.finished.items c.self.invariant.0)

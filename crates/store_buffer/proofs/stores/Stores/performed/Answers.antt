@@ -9,7 +9,8 @@ use Rattle.store_buffer.specs.Stores.{StoreList, all_given}
 use Rattle.store_buffer.proofs.Given.{given_list, given_is_there, given_is, kept_slotted, kept_open, done_slotted}
 use Rattle.store_buffer.proofs.Given.{done_open, kept_len, first_holds}
 use Rattle.store_buffer.proofs.Opens.{opened_before}
-use Rattle.store_buffer.proofs.Slotted.{is_there, given_none}
+use Rattle.store_buffer.specs.Waiting.{AreRetired}
+use Rattle.store_buffer.proofs.Slotted.{is_there, given_none, are_retired}
 use Rattle.store_buffer.proofs.stores.Stores.performed.Goals as goal
 
 alike : (a b : Bool) → beq a b ≡ true → a ≡ b
@@ -158,3 +159,15 @@ invariant_of-self-2 c =
       c.self.invariant.4,
       omega (arith, c.self.invariant.5, c.push_reserved.ensures.capacity),
     )
+
+pub returns-in-None-clause-retired : goal.returns-in-None-clause-retired
+returns-in-None-clause-retired c = subst (λ (l : StoreList). AreRetired l.stores) c.self.view_is
+    (are_retired c.self.inside.stores c.self.inside.slots c.self.inside.finished.items c.self.invariant.0)
+
+pub returns-then-was_open-is_open-clause-retired : goal.returns-then-was_open-is_open-clause-retired
+returns-then-was_open-is_open-clause-retired c = subst (λ (l : StoreList). AreRetired l.stores) c.self.view_is
+    (are_retired c.self.inside.stores c.self.inside.slots c.self.inside.finished.items c.self.invariant.0)
+
+pub returns-clause-retired : goal.returns-clause-retired
+returns-clause-retired c = subst (λ (l : StoreList). AreRetired l.stores) c.self.view_is
+    (are_retired c.self.inside.stores c.self.inside.slots c.self.inside.finished.items c.self.invariant.0)

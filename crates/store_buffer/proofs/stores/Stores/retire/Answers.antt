@@ -1,8 +1,8 @@
-use Rattle.std.proofs.Common.{ℕ, ◌≡◌, ◌≢◌, ◌+◌, ◌^◌, ◌≤◌, ◌∷◌, length, sym, ap, subst, ◌∙◌, arith}
+use Rattle.std.proofs.Common.{ℕ, ◌≡◌, ◌≢◌, ◌+◌, ◌≤◌, ◌∷◌, length, sym, ap, subst, ◌∙◌, arith}
 use Rattle.slab.specs.Slab.{values, slab_len}
 use Rattle.key_tree.specs.Entries.{number_at, put}
 use Rattle.store_buffer.specs.declared.store.Store.{Store}
-use Rattle.store_buffer.specs.Slots.{newest_first}
+use Rattle.store_buffer.specs.Slots.{newest_first, FitsMemory}
 use Rattle.store_buffer.specs.Stores.{StoreList, open_stores, AllTagged}
 use Rattle.store_buffer.proofs.Room.{tags_fit, all_counted, swept_counted, took_full, took_yes}
 use Rattle.store_buffer.proofs.Slotted.{open_more, slotted_more}
@@ -50,9 +50,8 @@ invariant_of-self c =
     let numbers : (q : ℕ) → number_at c.put.new.self q ≡ put s.tag i.result t.slots.entries q =
     subst (λ (u : Store). (q : ℕ) → number_at c.put.new.self q ≡ put u.tag i.result t.slots.entries q)
     (sym c.new.ensures.value) c.put.ensures.numbers in
-    let fits : s.entry.piece.addr + length s.entry.piece.bytes ≤ 2 ^ 64 =
-    subst (λ (u : Store). u.entry.piece.addr + length u.entry.piece.bytes ≤ 2 ^ 64) (sym c.new.ensures.value)
-    c.requires.fits in
+    let fits : FitsMemory s =
+    subst FitsMemory (sym c.new.ensures.value) (c.new.ensures.sized, c.requires.fits) in
     let more = open_more t.stores t.slots t.finished.items c.self.invariant.0 i.new.self c.put.new.self i.result s
     i.ensures.was_vacant i.ensures.updates i.ensures.len numbers below c.new.ensures.opens fits in (
       slotted_more t.stores t.slots t.finished.items c.self.invariant.0 i.new.self c.put.new.self i.result s

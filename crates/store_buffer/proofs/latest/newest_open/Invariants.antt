@@ -1,0 +1,13 @@
+use Rattle.std.proofs.Common.{◌≡◌, ◌&&◌, nat_lt, find, option_copied}
+use Rattle.slab.specs.Slab.{values}
+use Rattle.store_buffer.specs.Slots.{newest_first}
+use Rattle.store_buffer.specs.Store.{stays_open}
+use Rattle.store_buffer.proofs.Finding.{found_from}
+use Rattle.store_buffer.proofs.latest.newest_open.Given as goal
+
+abbrev pub invariant-loop-at : goal.invariant-loop-at
+invariant-loop-at l =
+    (goal.iterator-loop-at).can_next l._at-iterator
+    × (goal.iterator-loop-at).is_finite l._at-iterator
+    × (found_from (λ s. nat_lt s.tag l.below && stays_open s) (option_copied l.newest) l._at-iterator
+    ≡ find (λ s. nat_lt s.tag l.below && stays_open s) (newest_first (values l.stores)))
