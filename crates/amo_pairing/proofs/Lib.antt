@@ -1,0 +1,10 @@
+pub mod Answered
+pub mod Atomic
+pub mod Blamed
+pub mod Blocks
+pub mod Foreigners
+pub mod Growing
+pub mod Opens
+pub mod Pairs
+pub mod Performed
+pub mod Stayed
