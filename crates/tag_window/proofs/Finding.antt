@@ -113,6 +113,17 @@ module _ (at : ℕ → Option Link) (head here : Option ℕ) (x : ℕ) (items : 
                 });
           }
 
+-- what is found in the first of the linked Reads
+pub found_first : (at : ℕ → Option Link) (slot x : ℕ) (items : List Read) (cs : List Arrival)
+    → IsTagChain at (Some slot) cs → has (get_or items slot no_read).piece x ≡ true → Some slot ≡ slot_with x items cs
+found_first at slot x items [] c h = cc
+found_first at slot x items (a ∷ cs) c h =
+    let one : Some a.slot ≡ Some slot = sym c.1 in
+    let s : slot ≡ a.slot = cc in
+    subst (λ (n : ℕ). Some n ≡ slot_with x items (a ∷ cs)) (sym s)
+    (sym (ap (λ (b : Bool). if b then Some a.slot else slot_with x items cs)
+    (subst (λ (n : ℕ). has (get_or items n no_read).piece x ≡ true) s h)))
+
 -- ---- a walk that notes the first slot of each byte
 
 -- what was noted of the byte at x, and else what the rest has

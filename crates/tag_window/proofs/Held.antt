@@ -307,6 +307,20 @@ module _ (order : TagOrder) (items : List Read) (s : IsTagOrder order) (h : AreI
             (found i inside) here (whole i inside) (whole k l) both));
       }
 
+  -- where one slot has all bytes, they are one part
+  pub whole_part : (addr len k slot : ℕ)
+      → ((i : ℕ) → i < len → Some slot ≡ slot_with (addr + i) items (arrivals_of_tag tag (live_reports order)))
+      → k < len → IsInPart tag addr (tagged no_read items (live_reports order)) k 0
+  whole_part addr len k slot found l =
+      let here = counts_by (addr + k) (Some slot) (found k l) in
+      let zero_in : 0 < len = omega (arith, l) in
+      record {
+        counts = ap is_some (sym here);
+        upto = omega arith;
+        same = sym (counts_by (addr + 0) (Some slot) (found 0 zero_in)) ∙ here;
+        lowest = λ i m. absurd (omega (arith, m));
+      }
+
   pub lowest_missing : (extent : Extent) (k : ℕ) (slots : List (Option ℕ))
       → ((i : ℕ) → i < extent.len → get_or slots i None ≡ slot_with (extent.addr + i) items (arrivals_of_tag tag
       (live_reports order)))

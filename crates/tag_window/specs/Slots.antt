@@ -68,6 +68,12 @@ slot_with x items (a ∷ cs) =
 abbrev pub FindsAt : Slab Link → Option ℕ → List Read → ℕ → Option ℕ → Type 0
 FindsAt links head items x slot = (cs : List Arrival) → IsTagChain (get links) head cs → slot ≡ slot_with x items cs
 
+-- there is a first slot, and the Read in it has all bytes of a load
+pub record HasAll (items : List Read) (head : Option ℕ) (load : Extent) : Type 0 where
+  pub slot : ℕ
+  pub first : head ≡ Some slot
+  pub all : (k : ℕ) → k < load.len → has (slice_index_or items slot no_read).piece (load.addr + k) ≡ true
+
 -- the slot of a byte, once a Read in this one was seen that has the byte or not: the first such stays
 abbrev pub noted : Bool → ℕ → Option ℕ → Option ℕ
 noted has slot None = if has then Some slot else None

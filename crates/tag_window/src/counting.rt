@@ -5,7 +5,7 @@ ghost use Rattle.std.specs.Prelude.{IfSome, IfNone, is_some, true, false, slice_
 ghost use Rattle.slab.specs.Slab.{get};
 ghost use Rattle.tag_window.specs.declared.order.Arrival.{Arrival as Item};
 ghost use Rattle.tag_window.specs.Order.{IsTagChain};
-ghost use Rattle.tag_window.specs.Slots.{AreLinked, FindsAt, IsFirstSame, IsFirstWithout, noted, slot_with};
+ghost use Rattle.tag_window.specs.Slots.{AreLinked, FindsAt, HasAll, IsFirstSame, IsFirstWithout, noted, slot_with};
 ghost use Rattle.msg_frames.specs.Pieces.{has};
 
 use crate::links::{Link, link_at};
@@ -51,6 +51,28 @@ pub fn find(links: &Slab<Link>, reads: &Vec<Read>, head: Option<usize>, addr: u6
         left -= 1;
     }
     None
+}
+
+/// Whether a piece has all bytes of a load.
+fn covers(piece: &Piece, load: &Extent) -> bool
+    ensures { result ≡ true → (k : ℕ) → k < load.now.len → has piece.now (load.now.addr + k) ≡ true }
+{
+    if load.addr < piece.addr {
+        return false;
+    }
+    let before = load.addr - piece.addr;
+    before < 8 && before + u64::from(load.len) <= u64::from(piece.bytes.len())
+}
+
+/// Whether there is a Read in front, and it has all bytes of a load.
+pub fn first_has_all(reads: &Vec<Read>, head: Option<usize>, load: &Extent) -> bool
+    requires { (slot : ℕ) → head ≡ Some slot → slot < length reads.now.items }
+    ensures { result ≡ true → HasAll reads.now.items head load.now }
+{
+    match head {
+        None => false,
+        Some(slot) => covers(&reads[slot].piece, load),
+    }
 }
 
 /// Whether a piece has one of the bytes of a load.

@@ -192,6 +192,9 @@ impl Tags {
         ensures missing { IfMissing result (λ at. IsLowestMissing tag extent.now self.now.reads at) }
     {
         let head = newest::slot_of(&self.reads.newest, tag);
+        if counting::first_has_all(&self.read_items, head, extent) {
+            return Counting::All([0; 8]);
+        }
         let mut slots = [None; 8];
         counting::slots_of(
             &self.reads.links,

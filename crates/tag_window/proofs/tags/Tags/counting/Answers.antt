@@ -1,9 +1,11 @@
 use Rattle.std.proofs.Common.{ℕ, ◌+◌, subst, sym}
+use Rattle.slab.specs.Slab.{get, slab_len}
+use Rattle.tag_window.proofs.Finding.{finding_begins, found_first, slot_inside}
 use Rattle.std.specs.List.{slice_index}
 use Rattle.tag_window.specs.Order.{live_reports, arrivals_of_tag}
 use Rattle.tag_window.specs.Slots.{no_read, place_of_read}
 use Rattle.tag_window.specs.Windows.{Window, IsInPart, IsLowestMissing}
-use Rattle.tag_window.proofs.Held.{linked, chain_from, part_of, lowest_missing}
+use Rattle.tag_window.proofs.Held.{linked, chain_from, part_of, whole_part, lowest_missing}
 use Rattle.tag_window.proofs.tags.Tags.counting.Goals as goal
 
 pub slots_of-requires-clause-linked : goal.slots_of-requires-clause-linked
@@ -11,6 +13,16 @@ slots_of-requires-clause-linked c =
     let t = c.self.inside in
     linked place_of_read no_read t.reads t.read_items.items c.self.invariant.0 c.self.invariant.2 c.args.tag
     c.slot_of-head.result c.slot_of-head.ensures
+
+pub first_has_all-requires : goal.first_has_all-requires
+first_has_all-requires c = λ slot e.
+    let t = c.self.inside in
+    let head = c.slot_of-head.result in
+    let xs = t.read_items.items in
+    slot_inside (get t.reads.links) head head 0 xs (slab_len t.reads.links)
+    (finding_begins t.reads.links head 0 xs
+    (linked place_of_read no_read t.reads xs c.self.invariant.0 c.self.invariant.2 c.args.tag head
+    c.slot_of-head.ensures)) slot e
 
 pub returns-in-None-clause-all : goal.returns-in-None-clause-all
 returns-in-None-clause-all c = λ k l.
