@@ -1,7 +1,7 @@
 -- A search along linked Reads.
 use Rattle.std.proofs.Common.{ℕ, ◌≡◌, ◌+◌, ◌<◌, ◌≤◌, Bool, true, false, List, [], ◌∷◌, length, get_or, set}
 use Rattle.std.proofs.Common.{Option, None, inl, inr, is_some}
-use Rattle.std.proofs.Common.{Some, refl, sym, ap, ◌∙◌, subst, arith, if◌then◌else◌}
+use Rattle.std.proofs.Common.{Some, refl, sym, ap, ◌∙◌, subst, arith, if◌then◌else◌, slice_index}
 use Rattle.std.proofs.lemmas.Bool.{cases_eq}
 use Rattle.std.proofs.lemmas.List.{get_or-set_same, get_or-set_other}
 use Rattle.slab.specs.Slab.{Slab, get, slab_len}
@@ -112,6 +112,10 @@ module _ (at : ℕ → Option Link) (head here : Option ℕ) (x : ℕ) (items : 
                       ∙ ap (slot_with x items) (sym t.is) ∙ g.same;
                 });
           }
+
+-- one part alone
+pub in_part_0 : (k : ℕ) → k < 8 → slice_index (0 ∷ 0 ∷ 0 ∷ 0 ∷ 0 ∷ 0 ∷ 0 ∷ 0 ∷ []) k ≡ 0
+in_part_0 k l = grind arith
 
 -- what is found in the first of the linked Reads
 pub found_first : (at : ℕ → Option Link) (slot x : ℕ) (items : List Read) (cs : List Arrival)

@@ -1,7 +1,8 @@
 -- What stands in the slots of the reports that are there.
 use Rattle.std.specs.Prelude.{ℕ, ◌≡◌, ◌≢◌, ◌<◌, ◌≤◌, Bool, true, List, [], ◌∷◌, length, map, Option, None, Some}
-use Rattle.std.specs.Prelude.{is_some, slice_index_or, if◌then◌else◌}
+use Rattle.std.specs.Prelude.{◌+◌, is_some, slice_index_or, if◌then◌else◌}
 use Rattle.tandem_base.specs.Places.{comes_before}
+use Rattle.tandem_base.specs.declared.extent.Extent.{Extent}
 use Rattle.tandem_base.specs.declared.names.Position.{Position}
 use Rattle.byte_memory.specs.declared.capture.Capture.{Capture}
 use Rattle.slab.specs.Slab.{Slab, get, slab_len}

@@ -1,6 +1,7 @@
-use Rattle.std.proofs.Common.{ℕ, ◌+◌, subst, sym}
+use Rattle.std.proofs.Common.{ℕ, ◌+◌, Option, subst, sym, arith}
+use Rattle.tag_window.specs.Order.{IsTagChain}
 use Rattle.slab.specs.Slab.{get, slab_len}
-use Rattle.tag_window.proofs.Finding.{finding_begins, found_first, slot_inside}
+use Rattle.tag_window.proofs.Finding.{finding_begins, found_first, in_part_0, slot_inside}
 use Rattle.std.specs.List.{slice_index}
 use Rattle.tag_window.specs.Order.{live_reports, arrivals_of_tag}
 use Rattle.tag_window.specs.Slots.{no_read, place_of_read}
@@ -23,6 +24,25 @@ first_has_all-requires c = λ slot e.
     (finding_begins t.reads.links head 0 xs
     (linked place_of_read no_read t.reads xs c.self.invariant.0 c.self.invariant.2 c.args.tag head
     c.slot_of-head.ensures)) slot e
+
+pub returns-then-first_has_all-clause-all : goal.returns-then-first_has_all-clause-all
+returns-then-first_has_all-clause-all c = λ k l.
+    let t = c.self.inside in
+    let v = c.self.invariant in
+    let xs = t.read_items.items in
+    let at = get t.reads.links in
+    let cs = arrivals_of_tag c.args.tag (live_reports t.reads) in
+    let h = c.first_has_all.ensures c.if-first_has_all.true in
+    let chain = chain_from place_of_read no_read t.reads xs v.0 v.2 c.args.tag c.slot_of-head.result
+    c.slot_of-head.ensures in
+    let here = subst (λ (o : Option ℕ). IsTagChain at o cs) h.first chain in
+    let addr = c.args.extent.now.addr in
+    let len = c.args.extent.now.len in
+    let whole = whole_part t.reads xs v.0 v.2 c.args.tag addr len k h.slot
+    (λ i m. found_first at h.slot (addr + i) xs cs here (h.all i m)) l in
+    subst (λ (part : ℕ). IsInPart c.args.tag addr c.args.self.now.reads k part)
+    (sym (in_part_0 k (omega (arith, l, c.fits-extent))))
+    (subst (λ (w : Window). IsInPart c.args.tag addr w.reads k 0) c.self.view_is whole)
 
 pub returns-in-None-clause-all : goal.returns-in-None-clause-all
 returns-in-None-clause-all c = λ k l.
