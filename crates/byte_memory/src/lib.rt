@@ -12,6 +12,3 @@ pub use capture::{Capture, Foreign, StoreCapture};
 pub use laws::{captures_stay, stores_leave_their_byte, two_writers_tell_each_last_foreign_one};
 pub use memory::Memory;
 pub use writer::{Cell, Writer};
-
-#[cfg(test)]
-mod tests;

@@ -6,6 +6,3 @@ mod file;
 
 pub use answers::{CsrRead, CsrWrite};
 pub use file::Csrs;
-
-#[cfg(test)]
-mod tests;

@@ -17,6 +17,3 @@ pub use fault::{ImageFault, TooLarge};
 pub use image::Image;
 pub use limits::{MOST_FILE_BYTES, most_file_bytes_has_its_number};
 pub use ram::Ram;
-
-#[cfg(test)]
-mod tests;

@@ -6,6 +6,3 @@ mod nodes;
 mod tree;
 
 pub use tree::KeyTree;
-
-#[cfg(test)]
-mod tests;

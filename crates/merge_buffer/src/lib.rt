@@ -11,6 +11,3 @@ pub use laws::merging_gives_the_newest_byte;
 pub use lines::{Drain, Lines};
 pub use merging::Difference;
 pub use waiting::Part;
-
-#[cfg(test)]
-mod tests;

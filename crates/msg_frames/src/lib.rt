@@ -27,6 +27,3 @@ pub use message::{
 pub use rules::well_formed;
 pub use sizes::size;
 pub use source::{Arrived, Next, next_message, next_message_into};
-
-#[cfg(test)]
-mod tests;

@@ -17,6 +17,3 @@ pub use effect::{Effect, Outside};
 pub use hart::Hart;
 pub use laws::causes_have_their_numbers;
 pub use plan::{Config, Plan, What};
-
-#[cfg(test)]
-mod tests;

@@ -14,6 +14,3 @@ pub use counting::Counting;
 pub use laws::{early_bypasses_wait_for_their_retire, live_reads_are_those_that_nothing_dropped};
 pub use reports::{Early, Read};
 pub use tags::Tags;
-
-#[cfg(test)]
-mod tests;

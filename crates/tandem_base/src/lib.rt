@@ -24,6 +24,3 @@ pub use names::{
 };
 pub use puts::put;
 pub use room::Took;
-
-#[cfg(test)]
-mod tests;

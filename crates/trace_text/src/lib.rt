@@ -21,6 +21,3 @@ pub use lines::{LONGEST_LINE, put_line};
 pub use printing::to_text;
 pub use text::from_text;
 pub use text_line::{TextLine, next_line};
-
-#[cfg(test)]
-mod tests;

@@ -5,8 +5,6 @@ mod detail;
 mod fault;
 mod fault_values;
 mod printing;
-#[cfg(test)]
-mod tests;
 mod text;
 mod verdict;
 

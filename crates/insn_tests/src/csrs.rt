@@ -1,6 +1,6 @@
 //! What registers keep, and what traps and MRET do.
 
-use crate::{CsrRead, CsrWrite, Csrs};
+use csr_file::{CsrRead, CsrWrite, Csrs};
 use tandem_base::csrs::{
     CYCLE, INSTRET, MCAUSE, MEPC, MHARTID, MIE, MIP, MSCRATCH, MSTATUS, MTVAL, MTVEC, TIME,
 };

@@ -2,7 +2,7 @@
 
 mod linked;
 
-use crate::{Image, ImageFault, Ram, TooLarge};
+use elf_image::{Image, ImageFault, Ram, TooLarge};
 use std::alloc::{AllocError, Global};
 use std::test::Fail;
 use tandem_base::Extent;

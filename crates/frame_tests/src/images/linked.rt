@@ -2,7 +2,7 @@
 //! to be loaded, and sections follow.
 
 use super::{Place, wrong_place};
-use crate::Image;
+use elf_image::Image;
 use std::alloc::{AllocError, Global};
 use std::test::Fail;
 

@@ -3,11 +3,11 @@
 ghost use Rattle.std.specs.Prelude.{◌≡◌, ◌+◌, IfOk};
 ghost use Rattle.tag_window.specs.Windows.{ComesAfter};
 
-use crate::{Counting, Tags};
 use byte_memory::{Capture, StoreCapture};
 use msg_frames::Piece;
 use std::alloc::{AllocError, Global};
 use std::test::Fail;
+use tag_window::{Counting, Tags};
 use tandem_base::{Bytes8, Extent, Position, Took};
 
 const X: u64 = 0x8000_1000;

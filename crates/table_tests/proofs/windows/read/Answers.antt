@@ -2,8 +2,8 @@ use Rattle.std.proofs.Common.{◌+◌, sym, subst, List}
 use Rattle.tag_window.specs.declared.reports.Read.{Read}
 use Rattle.tag_window.specs.declared.reports.Early.{Early}
 use Rattle.tag_window.specs.Windows.{Tagged, AllEarlier, places_of_reads, places_of_bypasses}
-use Rattle.tag_window.proofs.Later.{at, all_next, bypasses_next}
-use Rattle.tag_window.proofs.tests.bypass.Goals as goal
+use Rattle.tag_window.proofs.Later.{at, all_next, reads_next}
+use Rattle.table_tests.proofs.windows.read.Goals as goal
 
 pub returns-in_err-bytes : goal.returns-in_err-bytes
 returns-in_err-bytes c = (
@@ -14,9 +14,9 @@ returns-in_err-bytes c = (
 pub returns : goal.returns
 returns c = (
   subst (λ (rs : List (Tagged Read)). AllEarlier (at (c.args.message + 1)) (places_of_reads rs))
-      (sym c.early.ensures.reads)
-      (all_next c.args.message (places_of_reads c.args.tags.now.reads) c.requires.0),
+      (sym c.read.ensures.reads)
+      (reads_next c.read.result c.args.message c.args.tag _ c.args.tags.now.reads c.seen.ensures c.requires.0),
   subst (λ (bs : List (Tagged Early)). AllEarlier (at (c.args.message + 1)) (places_of_bypasses bs))
-      (sym c.early.ensures.bypasses)
-      (bypasses_next c.early.result c.args.message c.args.tag _ c.args.tags.now.bypasses c.seen.ensures c.requires.1),
+      (sym c.read.ensures.bypasses)
+      (all_next c.args.message (places_of_bypasses c.args.tags.now.bypasses) c.requires.1),
 )

@@ -2,7 +2,7 @@ use Rattle.std.proofs.Common.{◌+◌, List, sym, subst, arith}
 use Rattle.merge_buffer.specs.declared.waiting.Part.{Part}
 use Rattle.merge_buffer.specs.Parts.{AllBelow}
 use Rattle.merge_buffer.proofs.Upward.{still, after}
-use Rattle.merge_buffer.proofs.tests.insert.Goals as goal
+use Rattle.table_tests.proofs.merging.insert.Goals as goal
 
 pub returns-in_err-bytes : goal.returns-in_err-bytes
 returns-in_err-bytes c = λ line. still _ _ (c.requires line)

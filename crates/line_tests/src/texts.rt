@@ -1,8 +1,8 @@
 //! Lines of each kind, and texts that are near to one. The columns are counted by hand.
 
-use super::{TextFault, from_text, to_text};
 use std::test::Fail;
 use tandem_io::MemSink;
+use trace_text::{TextFault, from_text, to_text};
 
 const ALL_KINDS: &str = "open time=0 version=1 harts=16 flags=3 granule=0 skew=0
 poke hart=15 time=0 reg=pc value=0x80000004

@@ -1,7 +1,11 @@
 //! What no clause says: results at the ends of the ranges, worked out with whole numbers of any size.
 
-use super::*;
 use std::cmp::Ordering;
+use tandem_base::{
+    Bytes8, Extent, Place, Position, csrs, div, div32, divu, divu32, mulh, mulhsu, mulhu,
+    places_are_ordered, positions_are_ordered_as_places, put, rem, rem32, remu, remu32, sext,
+    u16_at, u32_at, u64_at,
+};
 
 /// Whether the lowest bits of a value are extended to this.
 fn extends(value: u64, bits: u8, want: u64) -> bool {

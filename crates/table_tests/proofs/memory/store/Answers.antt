@@ -2,7 +2,7 @@ use Rattle.std.proofs.Common.{ℕ, ◌≡◌, ◌+◌, ◌-◌, ◌/◌, ◌==�
 use Rattle.std.proofs.lemmas.Bool.Decides.{nat_tests}
 use Rattle.tandem_base.specs.Extents.{is_among}
 use Rattle.byte_memory.specs.Memory.{is_ready}
-use Rattle.byte_memory.proofs.tests.store.Goals as goal
+use Rattle.table_tests.proofs.memory.store.Goals as goal
 
 of_either : (old : Bool) (x addr len : ℕ) → is_among addr len x ≡ true → len ≤ 8
     → ((old || (x / 64 == addr / 64)) || (x / 64 == (addr + len - 1) / 64)) ≡ true

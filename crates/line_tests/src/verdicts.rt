@@ -1,11 +1,11 @@
 //! Lines spelled by hand: of each verdict, and of each fault.
 
-use super::{Fault, Limit, RdWant, Report, Verdict, line, print};
 use msg_frames::{CsrValue, Form, Head, RdValue};
 use std::alloc::{AllocError, Global};
 use std::test::Fail;
 use tandem_base::{OpName, Origin};
 use tandem_io::{MemSink, WriteFailed};
+use verdict_report::{Fault, Limit, RdWant, Report, Verdict, line, print};
 
 /// Whether the verdict's line is this text and a newline, over a buffer.
 fn tells_over(verdict: &Verdict, text: &[u8], out: &mut [u8; 256]) -> bool {

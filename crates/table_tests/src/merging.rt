@@ -4,7 +4,7 @@ ghost use Rattle.std.specs.Prelude.{◌≡◌, ◌+◌, ◌%◌, ℕ, IfOk};
 ghost use Rattle.merge_buffer.specs.Parts.{AllBelow};
 ghost use Rattle.merge_buffer.specs.Buffers.{waiting_on};
 
-use crate::{Difference, Drain, Lines};
+use merge_buffer::{Difference, Drain, Lines};
 use msg_frames::{LineWrite, Piece};
 use std::alloc::{AllocError, Global};
 use std::test::Fail;

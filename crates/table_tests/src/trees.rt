@@ -2,7 +2,7 @@
 
 ghost use Rattle.std.specs.Prelude.{◌≡◌, IfOk};
 
-use crate::KeyTree;
+use key_tree::KeyTree;
 use std::alloc::{AllocError, Global};
 use std::test::Fail;
 

@@ -2,7 +2,7 @@
 
 ghost use Rattle.std.specs.Prelude.{◌<◌, ◌^◌};
 
-use crate::{Capture, Foreign, Memory, StoreCapture, Writer};
+use byte_memory::{Capture, Foreign, Memory, StoreCapture, Writer};
 use elf_image::{Image, ImageFault, Ram};
 use msg_frames::Piece;
 use std::alloc::Global;
