@@ -7,7 +7,7 @@ use Rattle.slab.specs.Slab.{Slab, get, slab_len, Updates}
 use Rattle.tandem_base.specs.declared.extent.Extent.{Extent}
 use Rattle.tandem_base.specs.declared.names.Position.{Position}
 use Rattle.tandem_base.specs.Extents.{is_among}
-use Rattle.kept_ops.specs.declared.doubleword.ByteKeys.{ByteKeys}
+use Rattle.kept_ops.specs.declared.byte_keys.ByteKeys.{ByteKeys}
 use Rattle.kept_ops.specs.declared.operation.KeptOp.{KeptOp}
 use Rattle.kept_ops.specs.declared.words.Words.{Words}
 use Rattle.kept_ops.specs.Doublewords.{keys_with, keys_without, keys_closed, marks_of, marked_words, IsKeptAt}

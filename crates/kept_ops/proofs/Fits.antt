@@ -12,7 +12,7 @@ use Rattle.kept_ops.specs.declared.operation.KeptOp.{KeptOp}
 use Rattle.std.specs.Option.{option_and_then}
 use Rattle.tandem_base.specs.declared.extent.Extent.{Extent}
 use Rattle.tandem_base.specs.Extents.{is_among}
-use Rattle.kept_ops.specs.declared.doubleword.ByteKeys.{ByteKeys}
+use Rattle.kept_ops.specs.declared.byte_keys.ByteKeys.{ByteKeys}
 use Rattle.kept_ops.specs.Doublewords.{keys_in, has_a_key, HasKey, IsKeptAt}
 use Rattle.kept_ops.specs.Operations.{holds_byte}
 use Rattle.kept_ops.specs.Words.{AreFound, AllMarked, keys_of, keys_of_word, doubleword_of, is_number_of}

@@ -7,7 +7,7 @@ use Rattle.std.proofs.lemmas.Bool.Decides.{nat_tests}
 use Rattle.slab.specs.Slab.{Slab, get}
 use Rattle.key_tree.specs.Entries.{KeyedEntries, number_at}
 use Rattle.tandem_base.specs.declared.extent.Extent.{Extent}
-use Rattle.kept_ops.specs.declared.doubleword.ByteKeys.{ByteKeys}
+use Rattle.kept_ops.specs.declared.byte_keys.ByteKeys.{ByteKeys}
 use Rattle.kept_ops.specs.declared.doubleword.Doubleword.{Doubleword}
 use Rattle.kept_ops.specs.Doublewords.{no_keys, keys_in}
 use Rattle.kept_ops.specs.Words.{AreFound, IsChanged, keys_of, keys_of_word, changed_in, changed_by}

@@ -1,5 +1,7 @@
 pub mod Arrived
+pub mod Cells
 pub mod Changes
+pub mod Divisions
 pub mod Fits
 pub mod Found
 pub mod Keeping
@@ -11,3 +13,4 @@ pub mod Marked
 pub mod Rising
 pub mod Seen
 pub mod Slots
+pub mod Vacant

@@ -9,7 +9,7 @@ use Rattle.tandem_base.specs.Extents.{is_among}
 use Rattle.tandem_base.specs.Places.{comes_before}
 use Rattle.rvwmo_model.specs.Order.{kind_loads, kind_stores}
 use Rattle.rvwmo_model.specs.Tests.{same_origin}
-use Rattle.kept_ops.specs.declared.doubleword.ByteKeys.{ByteKeys}
+use Rattle.kept_ops.specs.declared.byte_keys.ByteKeys.{ByteKeys}
 use Rattle.kept_ops.specs.declared.operation.KeptOp.{KeptOp}
 use Rattle.kept_ops.specs.Doublewords.{keys_with, keys_without, keys_closed, op_at, marks_of, later_key}
 use Rattle.kept_ops.specs.Doublewords.{other_key, other_key_beside, gives_way, without_key, HasKey, IsKeptAt, IsKeptOp}

@@ -1,5 +1,5 @@
 -- The marks of doublewords, by the keys under which operations are kept.
-use Rattle.std.specs.Prelude.{ℕ, ◌≡◌, ◌⊎◌, ◌<◌, ◌==◌, ◌||◌, Bool, true, List, [], ◌∷◌, map}
+use Rattle.std.specs.Prelude.{ℕ, ◌≡◌, ◌⊎◌, ◌/◌, ◌<◌, ◌==◌, ◌||◌, Bool, true, List, [], ◌∷◌, map}
 use Rattle.std.specs.Prelude.{Option, None, Some, is_some}
 use Rattle.std.specs.Prelude.{slice_index_or, if◌then◌else◌}
 use Rattle.slab.specs.Slab.{Slab, get}
@@ -7,9 +7,10 @@ use Rattle.tandem_base.specs.declared.extent.Extent.{Extent}
 use Rattle.tandem_base.specs.Extents.{is_among}
 use Rattle.tandem_base.specs.Places.{comes_before}
 use Rattle.rvwmo_model.specs.Tests.{same_origin}
-use Rattle.kept_ops.specs.declared.doubleword.ByteKeys.{ByteKeys}
+use Rattle.kept_ops.specs.declared.byte_keys.ByteKeys.{ByteKeys}
 use Rattle.kept_ops.specs.declared.doubleword.Doubleword.{Doubleword}
 use Rattle.kept_ops.specs.declared.operation.KeptOp.{KeptOp}
+use Rattle.kept_ops.specs.Divisions.{cell_size}
 use Rattle.kept_ops.specs.Marks.{ByteMarks}
 use Rattle.kept_ops.specs.Operations.{holds_byte, loads_at, stores_at, source_at}
 
@@ -76,9 +77,27 @@ abbrev pub keys_closed : Extent → ℕ → ByteKeys → ByteKeys
 keys_closed extent x keys =
     if is_among extent.addr extent.len x then record { store = keys.store; load = None; other = None } else keys
 
+-- the marks of byte x after one load of it more, which is kept under the key
+abbrev pub with_load : (ℕ → Option KeptOp) → ℕ → ℕ → KeptOp → ByteKeys → ByteKeys
+with_load at x key o keys = record {
+  store = keys.store;
+  load = later_key at keys.load key o;
+  other = other_key at x keys.load keys.other key o;
+}
+
+-- the marks of cell c of a doubleword
+abbrev pub cell_keys : Doubleword → ℕ → ByteKeys
+cell_keys word c = slice_index_or word.cells c no_keys
+
 -- the marks of byte k of a doubleword
 abbrev pub keys_in : Doubleword → ℕ → ByteKeys
-keys_in word k = slice_index_or word.bytes k no_keys
+keys_in word k = cell_keys word (k / cell_size word.division)
+
+-- the marks of its bytes
+abbrev pub keys_of_bytes : Doubleword → List ByteKeys
+keys_of_bytes word =
+    keys_in word 0 ∷ keys_in word 1 ∷ keys_in word 2 ∷ keys_in word 3 ∷ keys_in word 4 ∷ keys_in word 5 ∷ keys_in word 6
+    ∷ keys_in word 7 ∷ []
 
 -- the key is one of the marks
 abbrev pub HasKey : ByteKeys → ℕ → Type 0
@@ -103,7 +122,7 @@ HasMark word = (k : ℕ) × (k < 8) × (has_a_key (keys_in word k) ≡ true)
 -- the marks of the bytes of a doubleword, if there is one
 abbrev pub bytes_marked_by : (ℕ → Option KeptOp) → Option Doubleword → List ByteMarks
 bytes_marked_by at None = []
-bytes_marked_by at (Some word) = map (λ keys. marks_of at keys) word.bytes
+bytes_marked_by at (Some word) = map (λ keys. marks_of at keys) (keys_of_bytes word)
 
 -- the marks of the doublewords that an index leads to, each by its number
 abbrev pub marked_words : (ℕ → Option KeptOp) → Slab Doubleword → List (ℕ × ℕ) → List (ℕ × List ByteMarks)

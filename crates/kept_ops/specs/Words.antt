@@ -5,7 +5,7 @@ use Rattle.std.specs.Option.{option_and_then}
 use Rattle.slab.specs.Slab.{Slab, get}
 use Rattle.key_tree.specs.Entries.{KeyedEntries, number_at}
 use Rattle.tandem_base.specs.declared.extent.Extent.{Extent}
-use Rattle.kept_ops.specs.declared.doubleword.ByteKeys.{ByteKeys}
+use Rattle.kept_ops.specs.declared.byte_keys.ByteKeys.{ByteKeys}
 use Rattle.kept_ops.specs.declared.doubleword.Doubleword.{Doubleword}
 use Rattle.kept_ops.specs.declared.words.Words.{Words}
 use Rattle.kept_ops.specs.declared.operation.KeptOp.{KeptOp}

@@ -17,7 +17,7 @@ use tandem_base::Position;
 #[derive(Clone, Copy, Debug, PartialEq, Eq, PartialOrd, Ord)]
 pub struct Arrival {
     pub place: Position,
-    pub key: usize,
+    pub key: u32,
 }
 
 /// Places that came one after the other. Most come in their order; those that come after a later one

@@ -1,221 +1,28 @@
 //! The marks of the bytes of an aligned doubleword.
 
-ghost use Rattle.std.specs.Prelude.{◌≡◌, if◌then◌else◌};
-ghost use Rattle.slab.specs.Slab.{get};
-ghost use Rattle.rvwmo_model.specs.Tests.{same_origin};
-ghost use Rattle.kept_ops.specs.Operations.{loads_at, stores_at};
-ghost use Rattle.kept_ops.specs.Doublewords.{later_key, other_key, without_key};
-
+use crate::byte_keys::ByteKeys;
+use crate::division::{Division, division_of_extent};
 use crate::operation::KeptOp;
-use slab::Slab;
-use tandem_base::{Extent, Origin};
+use crate::ops::Ops;
+use tandem_base::Extent;
 
-/// The keys of three operations that are kept, by what they do to one byte.
-#[derive(Clone, Copy, Debug)]
-pub struct ByteKeys {
-    /// The latest store to it.
-    pub store: Option<usize>,
-    /// The latest load of it that no later store to it follows in program order.
-    pub load: Option<usize>,
-    /// The latest such load with another source than that one.
-    pub other: Option<usize>,
-}
-
-/// An aligned doubleword: the eighth of its address, and the keys at each of its bytes.
+/// An aligned doubleword: the eighth of its address, how it is divided into cells, and the keys at all
+/// bytes of each cell. What stands behind the last cell means nothing.
 #[derive(Clone, Copy, Debug)]
 pub struct Doubleword {
     pub number: u64,
-    pub bytes: [ByteKeys; 8],
-}
-
-/// The later of the operation that is marked and one more.
-fn later(ops: &Slab<KeptOp>, mark: Option<usize>, key: usize, op: &KeptOp) -> Option<usize>
-    ensures { result ≡ later_key (get ops.now) mark key op.now }
-{
-    match mark {
-        None => Some(key),
-        Some(held) => match ops.get(held) {
-            None => Some(key),
-            Some(old) => {
-                if old.place.is_before(&op.place) {
-                    Some(key)
-                } else {
-                    Some(held)
-                }
-            }
-        },
-    }
-}
-
-/// Whether two sources are the same.
-pub fn same_source(a: Option<Origin>, b: Option<Origin>) -> bool
-    ensures { result ≡ same_origin a b }
-{
-    match (a, b) {
-        (None, None) => true,
-        (Some(a), Some(b)) => a.hart == b.hart && a.tag == b.tag,
-        _ => false,
-    }
-}
-
-/// The latest load of another source than the latest load, once there is one load more.
-fn other(
-    ops: &Slab<KeptOp>,
-    load: Option<usize>,
-    mark: Option<usize>,
-    key: usize,
-    op: &KeptOp,
-    x: u64,
-) -> Option<usize>
-    ensures { result ≡ other_key (get ops.now) x load mark key op.now }
-{
-    let Some(held) = load else {
-        return mark;
-    };
-    match ops.get(held) {
-        None => mark,
-        Some(last) => {
-            if same_source(last.source(x), op.source(x)) {
-                mark
-            } else if last.place.is_before(&op.place) {
-                load
-            } else {
-                later(ops, mark, key, op)
-            }
-        }
-    }
-}
-
-/// A mark, unless it is of the operation under this key.
-fn without(mark: Option<usize>, key: usize) -> Option<usize>
-    ensures { result ≡ without_key key mark }
-{
-    match mark {
-        Some(held) => { if held == key { None } else { Some(held) } }
-        None => None,
-    }
-}
-
-/// The key of the latest store to the byte at `x`, after one operation more.
-fn store_with(
-    ops: &Slab<KeptOp>,
-    mark: Option<usize>,
-    key: usize,
-    op: &KeptOp,
-    x: u64,
-) -> Option<usize>
-    ensures { result ≡ (if stores_at x op.now then later_key (get ops.now) mark key op.now else mark) }
-{
-    if op.stores(x) {
-        later(ops, mark, key, op)
-    } else {
-        mark
-    }
-}
-
-/// The key of the latest load of it.
-fn load_with(
-    ops: &Slab<KeptOp>,
-    mark: Option<usize>,
-    key: usize,
-    op: &KeptOp,
-    x: u64,
-) -> Option<usize>
-    ensures { result ≡ (if loads_at x op.now then later_key (get ops.now) mark key op.now else mark) }
-{
-    if op.loads(x) {
-        later(ops, mark, key, op)
-    } else {
-        mark
-    }
-}
-
-/// The key of the latest load of it with another source than the latest load.
-fn other_with(
-    ops: &Slab<KeptOp>,
-    load: Option<usize>,
-    mark: Option<usize>,
-    key: usize,
-    op: &KeptOp,
-    x: u64,
-) -> Option<usize>
-    ensures { result ≡ (if loads_at x op.now then other_key (get ops.now) x load mark key op.now else mark) }
-{
-    if op.loads(x) {
-        other(ops, load, mark, key, op, x)
-    } else {
-        mark
-    }
-}
-
-impl ByteKeys {
-    ghost use Rattle.std.specs.Prelude.{◌≡◌, true, false};
-    ghost use Rattle.slab.specs.Slab.{get};
-    ghost use Rattle.kept_ops.specs.Doublewords.{no_keys, keys_with, keys_without, keys_closed, has_a_key};
-
-    /// No keys.
-    pub fn none() -> ByteKeys
-        ensures { result ≡ no_keys }
-    {
-        ByteKeys {
-            store: None,
-            load: None,
-            other: None,
-        }
-    }
-
-    /// The keys at `x` after one operation more, kept under this key.
-    #[tactic(auto, unfolding(crate::specs::Doublewords::keys_with))]
-    fn with(self, ops: &Slab<KeptOp>, key: usize, op: &KeptOp, x: u64) -> ByteKeys
-        ensures { result ≡ keys_with (get ops.now) x key op.now self }
-    {
-        ByteKeys {
-            store: store_with(ops, self.store, key, op, x),
-            load: load_with(ops, self.load, key, op, x),
-            other: other_with(ops, self.load, self.other, key, op, x),
-        }
-    }
-
-    /// Those that aren't this key.
-    #[tactic(auto, unfolding(crate::specs::Doublewords::keys_without))]
-    fn without(self, key: usize) -> ByteKeys
-        ensures { result ≡ keys_without key self }
-    {
-        ByteKeys {
-            store: without(self.store, key),
-            load: without(self.load, key),
-            other: without(self.other, key),
-        }
-    }
-
-    /// The keys at `x` once a store to an extent has retired.
-    fn closed(self, extent: &Extent, x: u64) -> ByteKeys
-        ensures { result ≡ keys_closed extent.now x self }
-    {
-        if extent.has(x) {
-            ByteKeys {
-                store: self.store,
-                load: None,
-                other: None,
-            }
-        } else {
-            self
-        }
-    }
-
-    /// Whether there is one.
-    fn is_some(self) -> bool
-        ensures { result ≡ has_a_key self }
-    {
-        self.store.is_some() || self.load.is_some() || self.other.is_some()
-    }
+    pub division: Division,
+    pub cells: [ByteKeys; 8],
 }
 
 impl Doubleword {
-    ghost use Rattle.std.specs.Prelude.{◌≡◌, ◌+◌, ◌*◌, ◌<◌, ◌^◌, ℕ, true, false};
+    ghost use Rattle.std.specs.Prelude.{◌≡◌, ◌+◌, ◌*◌, ◌/◌, ◌<◌, ◌≤◌, ◌^◌, ℕ, Some, true, false};
     ghost use Rattle.slab.specs.Slab.{get};
-    ghost use Rattle.kept_ops.specs.Doublewords.{no_keys, keys_in, keys_with, keys_without, keys_closed};
-    ghost use Rattle.kept_ops.specs.Doublewords.{has_a_key, HasMark};
+    ghost use Rattle.kept_ops.specs.declared.operation.KeptOp.{KeptOp as Op};
+    ghost use Rattle.kept_ops.specs.declared.division.Division.TheVariants.{Whole, Halves, Bytes};
+    ghost use Rattle.kept_ops.specs.Divisions.{cell_size, IsEven};
+    ghost use Rattle.kept_ops.specs.Doublewords.{no_keys, cell_keys, keys_in, keys_with, keys_without, keys_closed};
+    ghost use Rattle.kept_ops.specs.Doublewords.{has_a_key, op_at, HasMark};
 
     /// A doubleword without marks.
     pub fn new(number: u64) -> Doubleword
@@ -224,32 +31,160 @@ impl Doubleword {
     {
         Doubleword {
             number,
-            bytes: [ByteKeys::none(); 8],
+            division: Division::Whole,
+            cells: [ByteKeys::none(); 8],
         }
     }
 
-    /// Marks an operation, kept under this key, at each of its bytes.
-    pub fn mark(&mut self, ops: &Slab<KeptOp>, key: usize, op: &KeptOp)
+    /// The keys at byte `k`.
+    pub fn at(&self, k: u8) -> ByteKeys
+        requires { k < 8 }
+        ensures { result ≡ keys_in self.now k }
+    {
+        self.cells[self.division.cell(k)]
+    }
+
+    /// A division at whose cells the loads that are marked did the same at all bytes: this one, or a
+    /// finer one.
+    fn common(&self, ops: &Ops, division: Division) -> Division
+        ensures finer { cell_size result ≤ cell_size self.now.division }
+        ensures even { cell_size result ≤ cell_size division }
+        ensures loads { (c : ℕ) → c < 8 / cell_size self.now.division → (o : Op)
+            → op_at (get ops.now) (cell_keys self.now c).load ≡ Some o → IsEven result o }
+    {
+        let mut common = division.finer(self.division);
+        for c in 0..self.division.count() {
+            common = common.finer(ops.division(self.cells[c].load));
+        }
+        common
+    }
+
+    /// Divides the one cell into two.
+    fn halve(&mut self)
+        requires { self.old.division ≡ Whole }
+        ensures number { self.new.number ≡ self.old.number }
+        ensures division { self.new.division ≡ Halves }
+        ensures keys { (k : ℕ) → k < 8 → keys_in self.new k ≡ keys_in self.old k }
+    {
+        self.cells[1] = self.cells[0];
+        self.division = Division::Halves;
+    }
+
+    /// Divides two cells into eight.
+    fn scatter(&mut self)
+        requires { self.old.division ≡ Halves }
+        ensures number { self.new.number ≡ self.old.number }
+        ensures division { self.new.division ≡ Bytes }
+        ensures keys { (k : ℕ) → k < 8 → keys_in self.new k ≡ keys_in self.old k }
+    {
+        let low = self.cells[0];
+        let high = self.cells[1];
+        self.cells = [low, low, low, low, high, high, high, high];
+        self.division = Division::Bytes;
+    }
+
+    /// Divides it more finely, or leaves it as it is.
+    #[inline(never)]
+    fn split(&mut self, division: Division)
+        requires { cell_size division ≤ cell_size self.old.division }
+        ensures number { self.new.number ≡ self.old.number }
+        ensures division { self.new.division ≡ division }
+        ensures keys { (k : ℕ) → k < 8 → keys_in self.new k ≡ keys_in self.old k }
+    {
+        if self.division == Division::Whole && division != Division::Whole {
+            self.halve();
+        }
+        if self.division == Division::Halves && division == Division::Bytes {
+            self.scatter();
+        }
+    }
+
+    /// The same, where it mostly stays as it is.
+    fn divide(&mut self, division: Division)
+        requires { cell_size division ≤ cell_size self.old.division }
+        ensures number { self.new.number ≡ self.old.number }
+        ensures division { self.new.division ≡ division }
+        ensures keys { (k : ℕ) → k < 8 → keys_in self.new k ≡ keys_in self.old k }
+    {
+        match (self.division, division) {
+            (Division::Whole, Division::Whole) => {}
+            (Division::Halves, Division::Halves) => {}
+            (Division::Bytes, Division::Bytes) => {}
+            _ => self.split(division),
+        }
+    }
+
+    /// Marks an operation, kept under this key, at each cell of several.
+    #[inline(never)]
+    fn mark_each(&mut self, ops: &Ops, key: u32, op: &KeptOp)
         requires { self.old.number < 2 ^ 61 }
+        ensures number { self.new.number ≡ self.old.number }
+        ensures division { self.new.division ≡ self.old.division }
+        ensures cells { (c : ℕ) → c < 8 / cell_size self.old.division → cell_keys self.new c
+            ≡ keys_with (get ops.now) (self.old.number * 8 + c * cell_size self.old.division) key op.now
+            (cell_keys self.old c) }
+    {
+        let base = self.number * 8;
+        let size = self.division.size();
+        for c in 0..self.division.count() {
+            self.cells[c].add(ops, key, op, base + c as u64 * size);
+        }
+    }
+
+    /// Marks an operation, kept under this key, at each cell.
+    fn mark_cells(&mut self, ops: &Ops, key: u32, op: &KeptOp)
+        requires { self.old.number < 2 ^ 61 }
+        ensures number { self.new.number ≡ self.old.number }
+        ensures division { self.new.division ≡ self.old.division }
+        ensures cells { (c : ℕ) → c < 8 / cell_size self.old.division → cell_keys self.new c
+            ≡ keys_with (get ops.now) (self.old.number * 8 + c * cell_size self.old.division) key op.now
+            (cell_keys self.old c) }
+    {
+        match self.division {
+            Division::Whole => self.cells[0].add(ops, key, op, self.number * 8),
+            _ => self.mark_each(ops, key, op),
+        }
+    }
+
+    /// Marks an operation, kept under this key, at each of its bytes. It does the same at all bytes of a
+    /// cell of this division.
+    pub fn mark(&mut self, ops: &Ops, key: u32, op: &KeptOp, division: Division)
+        requires number { self.old.number < 2 ^ 61 }
+        requires even { IsEven division op.now }
         ensures number { self.new.number ≡ self.old.number }
         ensures keys { (k : ℕ) → k < 8 → keys_in self.new k
             ≡ keys_with (get ops.now) (self.old.number * 8 + k) key op.now (keys_in self.old k) }
     {
-        let base = self.number * 8;
-        for k in 0..8u8 {
-            let keys = self.bytes[k as usize];
-            self.bytes[k as usize] = keys.with(ops, key, op, base + u64::from(k));
-        }
+        let common = self.common(ops, division);
+        self.divide(common);
+        self.mark_cells(ops, key, op);
     }
 
     /// Takes the marks of the operation under this key away.
-    pub fn forget(&mut self, key: usize)
+    pub fn forget(&mut self, key: u32)
         ensures number { self.new.number ≡ self.old.number }
         ensures keys { (k : ℕ) → k < 8 → keys_in self.new k ≡ keys_without key (keys_in self.old k) }
     {
-        for k in 0..8 {
-            let keys = self.bytes[k];
-            self.bytes[k] = keys.without(key);
+        for c in 0..self.division.count() {
+            let keys = self.cells[c];
+            self.cells[c] = keys.without(key);
+        }
+    }
+
+    /// Takes the marks of loads of these bytes away from each cell. The extent has all bytes of a cell, or
+    /// none.
+    fn close_cells(&mut self, extent: &Extent)
+        requires { self.old.number < 2 ^ 61 }
+        ensures number { self.new.number ≡ self.old.number }
+        ensures division { self.new.division ≡ self.old.division }
+        ensures cells { (c : ℕ) → c < 8 / cell_size self.old.division → cell_keys self.new c
+            ≡ keys_closed extent.now (self.old.number * 8 + c * cell_size self.old.division) (cell_keys self.old c) }
+    {
+        let base = self.number * 8;
+        let size = self.division.size();
+        for c in 0..self.division.count() {
+            let keys = self.cells[c];
+            self.cells[c] = keys.closed(extent, base + c as u64 * size);
         }
     }
 
@@ -260,11 +195,9 @@ impl Doubleword {
         ensures keys { (k : ℕ) → k < 8 → keys_in self.new k
             ≡ keys_closed extent.now (self.old.number * 8 + k) (keys_in self.old k) }
     {
-        let base = self.number * 8;
-        for k in 0..8u8 {
-            let keys = self.bytes[k as usize];
-            self.bytes[k as usize] = keys.closed(extent, base + u64::from(k));
-        }
+        let division = division_of_extent(extent).finer(self.division);
+        self.divide(division);
+        self.close_cells(extent);
     }
 
     /// Whether no byte has a mark.
@@ -272,8 +205,8 @@ impl Doubleword {
         ensures none { result ≡ true → (k : ℕ) → k < 8 → has_a_key (keys_in self.now k) ≡ false }
         ensures some { result ≡ false → HasMark self.now }
     {
-        for k in 0..8 {
-            if self.bytes[k].is_some() {
+        for c in 0..self.division.count() {
+            if self.cells[c].is_some() {
                 return false;
             }
         }

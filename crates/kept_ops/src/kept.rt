@@ -10,10 +10,11 @@ ghost use Rattle.kept_ops.specs.Words.{AreMarked, keys_at};
 ghost use Rattle.kept_ops.specs.declared.operation.KeptOp.{KeptOp as Op};
 
 use crate::arrivals::{Arrival, Arrivals};
-use crate::doubleword::{ByteKeys, same_source};
+use crate::byte_keys::{ByteKeys, same_source};
+use crate::division::division_of;
 use crate::operation::KeptOp;
+use crate::ops::Ops;
 use crate::words::Words;
-use slab::Slab;
 use std::alloc::{AllocError, Global};
 use std::marker::Model;
 use tandem_base::{Extent, Origin, Position, Took};
@@ -22,7 +23,7 @@ use tandem_base::{Extent, Origin, Position, Took};
 /// each byte it knows the latest store to it, and the latest loads of it, without a search.
 #[derive(Drop)]
 pub struct Kept {
-    ops: Slab<KeptOp>,
+    ops: Ops,
     arrivals: Arrivals,
     words: Words,
     capacity: u32,
@@ -51,7 +52,7 @@ impl Model for Kept {
 
 /// Lets one operation go that doesn't stay, and answers whether there was one.
 fn drop_one(
-    ops: &mut Slab<KeptOp>,
+    ops: &mut Ops,
     arrivals: &mut Arrivals,
     words: &mut Words,
     oldest: Option<Position>,
@@ -74,20 +75,16 @@ fn drop_one(
     match arrivals.take(oldest) {
         None => false,
         Some(arrival) => {
-            let op = ops.remove(arrival.key);
-            words.forget(arrival.key, &op.extent);
+            let extent = ops.extent(arrival.key);
+            ops.remove(arrival.key);
+            words.forget(arrival.key, &extent);
             true
         }
     }
 }
 
 /// Lets all operations go that don't stay.
-fn drop_all(
-    ops: &mut Slab<KeptOp>,
-    arrivals: &mut Arrivals,
-    words: &mut Words,
-    oldest: Option<Position>,
-)
+fn drop_all(ops: &mut Ops, arrivals: &mut Arrivals, words: &mut Words, oldest: Option<Position>)
     requires arrived { AreArrived ops.old arrivals.old.items }
     requires marked { AreMarked ops.old words.old }
     ensures arrived { AreArrived ops.new arrivals.new.items }
@@ -108,7 +105,7 @@ fn drop_all(
 }
 
 /// The operation under a key, where there is a key.
-fn op_under(ops: &Slab<KeptOp>, mark: Option<usize>) -> Option<&KeptOp>
+fn op_under(ops: &Ops, mark: Option<u32>) -> Option<&KeptOp>
     ensures { option_copied result ≡ op_at (get ops.now) mark }
 {
     match mark {
@@ -118,7 +115,7 @@ fn op_under(ops: &Slab<KeptOp>, mark: Option<usize>) -> Option<&KeptOp>
 }
 
 /// The same, where it was performed after a place.
-fn over(ops: &Slab<KeptOp>, mark: Option<usize>, after: Position) -> Option<&KeptOp>
+fn over(ops: &Ops, mark: Option<u32>, after: Position) -> Option<&KeptOp>
     ensures { option_copied result ≡ over after (op_at (get ops.now) mark) }
 {
     match op_under(ops, mark) {
@@ -128,7 +125,7 @@ fn over(ops: &Slab<KeptOp>, mark: Option<usize>, after: Position) -> Option<&Kep
 }
 
 /// The key of the latest of two loads of the byte at `x` whose source isn't this one.
-fn other_key(ops: &Slab<KeptOp>, keys: &ByteKeys, x: u64, source: Option<Origin>) -> Option<usize>
+fn other_key(ops: &Ops, keys: &ByteKeys, x: u64, source: Option<Origin>) -> Option<u32>
     ensures { op_at (get ops.now) result
         ≡ other_than x source (op_at (get ops.now) keys.now.load) (op_at (get ops.now) keys.now.other) }
 {
@@ -162,7 +159,7 @@ impl Kept {
     {
         let words = capacity.checked_mul(2).ok_or(AllocError)?;
         Ok(Kept {
-            ops: Slab::with_capacity(alloc, capacity as usize)?,
+            ops: Ops::new(alloc, capacity)?,
             arrivals: Arrivals::new(alloc, capacity)?,
             words: Words::new(alloc, words)?,
             capacity,
@@ -189,12 +186,13 @@ impl Kept {
         if self.ops.len() == self.capacity as usize {
             return Took::Full(self.capacity);
         }
-        let key = self.ops.insert_reserved(*op);
+        let division = division_of(op);
+        let key = self.ops.insert(op, division);
         self.arrivals.add(Arrival {
             place: op.place,
             key,
         });
-        self.words.mark(&self.ops, key, op);
+        self.words.mark(&self.ops, key, op, division);
         Took::Yes
     }
 

@@ -2,10 +2,14 @@
 #![tactic(auto)]
 
 mod arrivals;
+mod byte_keys;
+mod division;
 mod doubleword;
 mod kept;
 mod laws;
 mod operation;
+mod ops;
+mod word_slots;
 mod words;
 
 pub use kept::Kept;
@@ -15,6 +19,3 @@ pub use laws::{
     nothing_is_marked_at_first, two_loads_tell_the_latest_from_elsewhere,
 };
 pub use operation::KeptOp;
-
-#[cfg(test)]
-mod tests;

@@ -1,13 +1,13 @@
 //! The doublewords that have a mark.
 
-ghost use Rattle.std.specs.Prelude.{◌≡◌, ◌+◌, ◌-◌, ◌/◌, ◌<◌, ◌^◌, Some};
-ghost use Rattle.slab.specs.Slab.{get, slab_len};
-ghost use Rattle.kept_ops.specs.declared.doubleword.Doubleword.{Doubleword as Word};
-ghost use Rattle.kept_ops.specs.Doublewords.{keys_with, keys_without, keys_closed};
-ghost use Rattle.kept_ops.specs.Words.{IsChanged};
+ghost use Rattle.std.specs.Prelude.{◌≡◌, ◌+◌, ◌-◌, ◌/◌};
 
-use crate::doubleword::{ByteKeys, Doubleword};
+use crate::byte_keys::ByteKeys;
+use crate::division::Division;
+use crate::doubleword::Doubleword;
 use crate::operation::KeptOp;
+use crate::ops::Ops;
+use crate::word_slots::{close_at, forget_at, has_number, mark_at, word_under};
 use key_tree::KeyTree;
 use slab::Slab;
 use std::alloc::{AllocError, Global};
@@ -18,6 +18,8 @@ use tandem_base::Extent;
 pub struct Words {
     words: Slab<Doubleword>,
     index: KeyTree,
+    /// Under which key the last one was found, for the next look-up.
+    last: usize,
 }
 
 /// The number of the doubleword that holds the first byte.
@@ -34,61 +36,12 @@ fn last_word(extent: &Extent) -> u64
     (extent.addr + u64::from(extent.len - 1)) / 8
 }
 
-/// Marks an operation at its bytes in the doubleword under a key.
-fn mark_at(words: &mut Slab<Doubleword>, at: usize, ops: &Slab<KeptOp>, key: usize, op: &KeptOp)
-    requires { (word : Word) × (get words.old at ≡ Some word) × (word.number < 2 ^ 61) }
-    ensures changed { IsChanged (λ x keys. keys_with (get ops.now) x key op.now keys) words.old words.new at }
-    ensures len { slab_len words.new ≡ slab_len words.old }
-    ensures capacity { words.new.capacity ≡ words.old.capacity }
-{
-    match words.get_mut(at) {
-        Some(word) => word.mark(ops, key, op),
-        None => unreachable!(),
-    }
-}
-
-/// Takes the marks of the operation under `key` away from the doubleword under a key.
-fn forget_at(words: &mut Slab<Doubleword>, at: usize, key: usize)
-    requires { (word : Word) × (get words.old at ≡ Some word) }
-    ensures changed { IsChanged (λ x keys. keys_without key keys) words.old words.new at }
-    ensures len { slab_len words.new ≡ slab_len words.old }
-    ensures capacity { words.new.capacity ≡ words.old.capacity }
-{
-    match words.get_mut(at) {
-        Some(word) => word.forget(key),
-        None => unreachable!(),
-    }
-}
-
-/// Takes the marks of loads of these bytes away from the doubleword under a key.
-fn close_at(words: &mut Slab<Doubleword>, at: usize, extent: &Extent)
-    requires { (word : Word) × (get words.old at ≡ Some word) × (word.number < 2 ^ 61) }
-    ensures changed { IsChanged (λ x keys. keys_closed extent.now x keys) words.old words.new at }
-    ensures len { slab_len words.new ≡ slab_len words.old }
-    ensures capacity { words.new.capacity ≡ words.old.capacity }
-{
-    match words.get_mut(at) {
-        Some(word) => word.close(extent),
-        None => unreachable!(),
-    }
-}
-
-/// The doubleword under a key, which is there.
-fn word_under(words: &Slab<Doubleword>, at: usize) -> &Doubleword
-    requires { (word : Word) × (get words.now at ≡ Some word) }
-    ensures { get words.now at ≡ Some result.now }
-{
-    match words.get(at) {
-        Some(word) => word,
-        None => unreachable!(),
-    }
-}
-
 impl Words {
-    ghost use Rattle.std.specs.Prelude.{◌≡◌, ◌≢◌, ◌+◌, ◌-◌, ◌/◌, ◌<◌, ◌≤◌, ◌^◌, ℕ, Some, [], IfOk};
+    ghost use Rattle.std.specs.Prelude.{◌≡◌, ◌≢◌, ◌+◌, ◌-◌, ◌/◌, ◌<◌, ◌≤◌, ◌^◌, ℕ, Some, [], IfOk, IfNone};
     ghost use Rattle.slab.specs.Slab.{get, slab_len};
-    ghost use Rattle.key_tree.specs.Entries.{number_at};
+    ghost use Rattle.key_tree.specs.Entries.{number_at, AreDistinct};
     ghost use Rattle.kept_ops.specs.Doublewords.{no_keys, keys_in, keys_with, keys_without, keys_closed};
+    ghost use Rattle.kept_ops.specs.Divisions.{IsEven};
     ghost use Rattle.kept_ops.specs.Words.{AreFound, AllMarked, AllMarkedBut, keys_at, changed_in, changed_by};
 
     /// No doublewords, with room for `capacity` of them.
@@ -104,7 +57,20 @@ impl Words {
         Ok(Words {
             words: Slab::with_capacity(alloc, capacity as usize)?,
             index: KeyTree::new(alloc, capacity)?,
+            last: 0,
         })
+    }
+
+    /// The key of a doubleword, if it has a mark.
+    fn find(&self, number: u64) -> Option<usize>
+        requires { AreFound self.now.words self.now.index }
+        ensures number { result ≡ number_at self.now.index number }
+        ensures distinct { IfNone result (AreDistinct self.now.index.entries) }
+    {
+        if has_number(&self.words, self.last, number) {
+            return Some(self.last);
+        }
+        self.index.get(number)
     }
 
     /// The key of a doubleword, which is put there without marks where it has none.
@@ -121,7 +87,7 @@ impl Words {
         ensures capacity { self.new.words.capacity ≡ self.old.words.capacity }
         ensures index { self.new.index.capacity ≡ self.old.index.capacity }
     {
-        match self.index.get(number) {
+        match self.find(number) {
             Some(at) => at,
             None => {
                 let at = self.words.insert_reserved(Doubleword::new(number));
@@ -150,10 +116,11 @@ impl Words {
     }
 
     /// Marks an operation, kept under a key, at its bytes in one doubleword.
-    fn mark_in(&mut self, number: u64, ops: &Slab<KeptOp>, key: usize, op: &KeptOp)
+    fn mark_in(&mut self, number: u64, ops: &Ops, key: u32, op: &KeptOp, division: Division)
         requires found { AreFound self.old.words self.old.index }
         requires marked { AllMarked self.old.words }
         requires number { number < 2 ^ 61 }
+        requires even { IsEven division op.now }
         requires room { slab_len self.old.words < self.old.words.capacity }
         requires keys { slab_len self.old.words < self.old.index.capacity }
         ensures found { AreFound self.new.words self.new.index }
@@ -165,12 +132,13 @@ impl Words {
         ensures index { self.new.index.capacity ≡ self.old.index.capacity }
     {
         let at = self.reach(number);
-        mark_at(&mut self.words, at, ops, key, op);
+        self.last = at;
+        mark_at(&mut self.words, at, ops, key, op, division);
         self.settle(number, at);
     }
 
     /// Takes the marks of an operation, kept under a key, away from one doubleword.
-    fn forget_in(&mut self, number: u64, key: usize)
+    fn forget_in(&mut self, number: u64, key: u32)
         requires found { AreFound self.old.words self.old.index }
         requires marked { AllMarked self.old.words }
         ensures found { AreFound self.new.words self.new.index }
@@ -181,7 +149,7 @@ impl Words {
         ensures capacity { self.new.words.capacity ≡ self.old.words.capacity }
         ensures index { self.new.index.capacity ≡ self.old.index.capacity }
     {
-        match self.index.get(number) {
+        match self.find(number) {
             None => {}
             Some(at) => {
                 forget_at(&mut self.words, at, key);
@@ -203,7 +171,7 @@ impl Words {
         ensures capacity { self.new.words.capacity ≡ self.old.words.capacity }
         ensures index { self.new.index.capacity ≡ self.old.index.capacity }
     {
-        match self.index.get(number) {
+        match self.find(number) {
             None => {}
             Some(at) => {
                 close_at(&mut self.words, at, extent);
@@ -217,16 +185,17 @@ impl Words {
         requires { AreFound self.now.words self.now.index }
         ensures { result ≡ keys_at self.now x }
     {
-        match self.index.get(x / 8) {
+        match self.find(x / 8) {
             None => ByteKeys::none(),
-            Some(at) => word_under(&self.words, at).bytes[(x % 8) as usize],
+            Some(at) => word_under(&self.words, at).at((x % 8) as u8),
         }
     }
 
     /// Marks an operation, kept under a key, at each of its bytes.
-    pub fn mark(&mut self, ops: &Slab<KeptOp>, key: usize, op: &KeptOp)
+    pub fn mark(&mut self, ops: &Ops, key: u32, op: &KeptOp, division: Division)
         requires found { AreFound self.old.words self.old.index }
         requires marked { AllMarked self.old.words }
+        requires even { IsEven division op.now }
         requires room { slab_len self.old.words + 2 ≤ self.old.words.capacity }
         requires keys { slab_len self.old.words + 2 ≤ self.old.index.capacity }
         ensures found { AreFound self.new.words self.new.index }
@@ -238,14 +207,14 @@ impl Words {
     {
         let first = first_word(&op.extent);
         let last = last_word(&op.extent);
-        self.mark_in(first, ops, key, op);
+        self.mark_in(first, ops, key, op, division);
         if last != first {
-            self.mark_in(last, ops, key, op);
+            self.mark_in(last, ops, key, op, division);
         }
     }
 
     /// Takes the marks of an operation, kept under a key, away.
-    pub fn forget(&mut self, key: usize, extent: &Extent)
+    pub fn forget(&mut self, key: u32, extent: &Extent)
         requires found { AreFound self.old.words self.old.index }
         requires marked { AllMarked self.old.words }
         ensures found { AreFound self.new.words self.new.index }

@@ -1,10 +1,11 @@
 use Rattle.std.proofs.Common.{◌≡◌, ◌<◌, ◌≤◌, ℕ}
-use Rattle.kept_ops.specs.Doublewords.{keys_in, keys_without}
+use Rattle.kept_ops.specs.Doublewords.{cell_keys, keys_without}
 use Rattle.kept_ops.proofs.doubleword.Doubleword.forget.Given as goal
 
-abbrev pub invariant-loop-k : goal.invariant-loop-k
-invariant-loop-k l = record {
+abbrev pub invariant-loop-c : goal.invariant-loop-c
+invariant-loop-c l = record {
   number : l.self.number ≡ l.fn.self.number;
-  below : (j : ℕ) → j < l.k → keys_in l.self j ≡ keys_without l.key (keys_in l.fn.self j);
-  above : (j : ℕ) → l.k ≤ j → keys_in l.self j ≡ keys_in l.fn.self j;
+  division : l.self.division ≡ l.fn.self.division;
+  below : (j : ℕ) → j < l.c → cell_keys l.self j ≡ keys_without l.key (cell_keys l.fn.self j);
+  above : (j : ℕ) → l.c ≤ j → cell_keys l.self j ≡ cell_keys l.fn.self j;
 }

@@ -1,6 +1,6 @@
 use Rattle.std.proofs.Common.{◌≡◌, ◌<◌, ℕ, false}
-use Rattle.kept_ops.specs.Doublewords.{keys_in, has_a_key}
+use Rattle.kept_ops.specs.Doublewords.{cell_keys, has_a_key}
 use Rattle.kept_ops.proofs.doubleword.Doubleword.is_empty.Given as goal
 
-abbrev pub invariant-loop-k : goal.invariant-loop-k
-invariant-loop-k l = (j : ℕ) → j < l.k → has_a_key (keys_in l.self j) ≡ false
+abbrev pub invariant-loop-c : goal.invariant-loop-c
+invariant-loop-c l = (j : ℕ) → j < l.c → has_a_key (cell_keys l.self j) ≡ false

@@ -32,18 +32,18 @@ mark-requires-clause-keys c =
 
 pub invariant_of-self : goal.invariant_of-self
 invariant_of-self c = (
-  with_added c.self.inside.ops c.insert_reserved-key.new.self c.self.inside.arrivals.items c.add.new.self.items
-      c.insert_reserved-key.result c.args.op.now c.self.invariant.0 c.insert_reserved-key.ensures.was_vacant
-      c.insert_reserved-key.ensures.updates c.insert_reserved-key.ensures.len c.add.ensures.items,
-  omega (arith, c.self.invariant.1, c.insert_reserved-key.ensures.len, c.if-len-self.false, c.len.ensures),
-  omega (arith, c.self.invariant.2, c.insert_reserved-key.ensures.capacity),
+  with_added c.self.inside.ops c.insert-key.new.self c.self.inside.arrivals.items c.add.new.self.items
+      c.insert-key.result c.args.op.now c.self.invariant.0 c.insert-key.ensures.was_vacant
+      c.insert-key.ensures.updates c.insert-key.ensures.len c.add.ensures.items,
+  omega (arith, c.self.invariant.1, c.insert-key.ensures.len, c.if-len-self.false, c.len.ensures),
+  omega (arith, c.self.invariant.2, c.insert-key.ensures.capacity),
   c.add.ensures.capacity ∙ c.self.invariant.3,
   record {
     found = c.mark.ensures.found;
     marked = c.mark.ensures.marked;
-    kept = kept_kept c.self.inside.ops c.insert_reserved-key.new.self c.self.inside.words c.mark.new.self
-        c.insert_reserved-key.result c.args.op.now c.insert_reserved-key.ensures.was_vacant
-        c.insert_reserved-key.ensures.updates c.self.invariant.4 c.mark.ensures.keys;
+    kept = kept_kept c.self.inside.ops c.insert-key.new.self c.self.inside.words c.mark.new.self
+        c.insert-key.result c.args.op.now c.insert-key.ensures.was_vacant
+        c.insert-key.ensures.updates c.self.invariant.4 c.mark.ensures.keys;
   },
   omega (arith, c.self.invariant.5, c.mark.ensures.capacity),
   omega (arith, c.self.invariant.6, c.mark.ensures.index),
@@ -51,14 +51,14 @@ invariant_of-self c = (
 
 pub returns-clause-ops : goal.returns-clause-ops
 returns-clause-ops c = rw (← c.self.view_is)
-    (is_with c.self.inside.ops c.insert_reserved-key.new.self c.insert_reserved-key.result c.args.op.now
-    c.insert_reserved-key.ensures.was_vacant c.insert_reserved-key.ensures.updates)
+    (is_with c.self.inside.ops c.insert-key.new.self c.insert-key.result c.args.op.now
+    c.insert-key.ensures.was_vacant c.insert-key.ensures.updates)
 
 pub returns-clause-marks : goal.returns-clause-marks
 returns-clause-marks c = rw (← c.self.view_is)
-    (kept_marks c.self.inside.ops c.insert_reserved-key.new.self c.self.inside.words c.mark.new.self
-    c.insert_reserved-key.result c.args.op.now c.insert_reserved-key.ensures.was_vacant
-    c.insert_reserved-key.ensures.updates c.self.invariant.4 c.mark.ensures.keys)
+    (kept_marks c.self.inside.ops c.insert-key.new.self c.self.inside.words c.mark.new.self
+    c.insert-key.result c.args.op.now c.insert-key.ensures.was_vacant
+    c.insert-key.ensures.updates c.self.invariant.4 c.mark.ensures.keys)
 
 pub returns-then-len-self-clause-latest : goal.returns-then-len-self-clause-latest
 returns-then-len-self-clause-latest c = rw (← c.self.view_is) (λ x since longer h e.
@@ -66,10 +66,10 @@ returns-then-len-self-clause-latest c = rw (← c.self.view_is) (λ x since long
 
 pub returns-clause-latest : goal.returns-clause-latest
 returns-clause-latest c = rw (← c.self.view_is) (λ x since longer h w.
-    knows_more x c.args.op.now (values c.self.inside.ops) (values c.insert_reserved-key.new.self) since longer
-    (seen (get c.self.inside.ops) c.self.inside.words x) (seen (get c.insert_reserved-key.new.self) c.mark.new.self x)
-    (is_with c.self.inside.ops c.insert_reserved-key.new.self c.insert_reserved-key.result c.args.op.now
-    c.insert_reserved-key.ensures.was_vacant c.insert_reserved-key.ensures.updates)
-    (kept_marks c.self.inside.ops c.insert_reserved-key.new.self c.self.inside.words c.mark.new.self
-    c.insert_reserved-key.result c.args.op.now c.insert_reserved-key.ensures.was_vacant
-    c.insert_reserved-key.ensures.updates c.self.invariant.4 c.mark.ensures.keys x) w h)
+    knows_more x c.args.op.now (values c.self.inside.ops) (values c.insert-key.new.self) since longer
+    (seen (get c.self.inside.ops) c.self.inside.words x) (seen (get c.insert-key.new.self) c.mark.new.self x)
+    (is_with c.self.inside.ops c.insert-key.new.self c.insert-key.result c.args.op.now
+    c.insert-key.ensures.was_vacant c.insert-key.ensures.updates)
+    (kept_marks c.self.inside.ops c.insert-key.new.self c.self.inside.words c.mark.new.self
+    c.insert-key.result c.args.op.now c.insert-key.ensures.was_vacant
+    c.insert-key.ensures.updates c.self.invariant.4 c.mark.ensures.keys x) w h)

@@ -1,6 +1,6 @@
 use Rattle.std.proofs.Common.{Option, ap, sym, ◌∙◌, option_copied}
 use Rattle.slab.specs.Slab.{get, values}
-use Rattle.kept_ops.specs.declared.doubleword.ByteKeys.{ByteKeys}
+use Rattle.kept_ops.specs.declared.byte_keys.ByteKeys.{ByteKeys}
 use Rattle.kept_ops.specs.declared.operation.KeptOp.{KeptOp}
 use Rattle.kept_ops.specs.Doublewords.{op_at}
 use Rattle.kept_ops.specs.Marks.{ByteMarks, other_than, over}

@@ -1,5 +1,5 @@
 use Rattle.std.proofs.Common.{ap, ◌∙◌}
-use Rattle.kept_ops.specs.declared.doubleword.ByteKeys.{ByteKeys}
+use Rattle.kept_ops.specs.declared.byte_keys.ByteKeys.{ByteKeys}
 use Rattle.kept_ops.specs.Doublewords.{keys_closed}
 use Rattle.kept_ops.specs.Words.{keys_at, changed_in}
 use Rattle.kept_ops.proofs.Found.{once, twice}

@@ -1,6 +1,6 @@
 //! Worked streams, as the table of one hart sees them: X is 0x80001000. A place is the number of its message.
 
-use crate::{Kept, KeptOp};
+use kept_ops::{Kept, KeptOp};
 use rvwmo_model::OpKind;
 use std::alloc::{AllocError, Global};
 use std::test::Fail;
