@@ -6,6 +6,7 @@ pub mod Fences
 pub mod FirstLaws
 pub mod Firsts
 pub mod MarkedOps
+pub mod Named
 pub mod OpenLrs
 pub mod Own
 pub mod RunningLaws
