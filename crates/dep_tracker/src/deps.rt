@@ -228,7 +228,9 @@ impl Deps {
     /// operations for a load, LR, AMO or SC that stored, and None for every other instruction. The
     /// instruction has to be one that some word encodes, and its CSR one of the twelve.
     pub fn retire(&mut self, insn: &Insn, start: Option<Mark>)
+        // It is what its word was decoded as.
         requires insn { IsInsn insn.now }
+        // Access to any other CSR traps.
         requires csr { IsKnown insn.now }
         ensures { (ws : List Started) → StandsFor self.old ws
             → StandsFor self.new (record { insn = insn.now; start = start } ∷ ws) }

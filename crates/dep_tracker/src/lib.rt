@@ -1,4 +1,4 @@
-//! The latest operations on which the instructions of a hart depend (section 14.1).
+//! The latest operations on which the instructions of a hart depend (Unprivileged ISA 20191213, 14.1).
 #![tactic(auto)]
 
 mod deps;

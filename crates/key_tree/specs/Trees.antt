@@ -35,7 +35,7 @@ pub record IsChild (at : ℕ → Option Node) (i : ℕ) (n : Node) (right : Bool
   pub up : to.parent ≡ Some i
   pub bit : side n.depth to.key ≡ right
 
--- there is no node, or the one without a parent
+-- the node at i has depth 0 and no parent
 pub record IsRoot (at : ℕ → Option Node) (i : ℕ) : Type 0 where
   pub node : Node
   pub there : at i ≡ Some node

@@ -37,9 +37,7 @@ second_mark key None two c = None
 second_mark key (Some a) two c =
     if same_origin (key a) (key c) then two else (if precedes a c then Some a else later two c)
 
--- one and two are the two marks of byte x of hart h, as far as they stand after q; stale ones, before q, may be
--- anything
--- that stands there
+-- one and two are the two marks of byte x of hart h, as far as they stand after q; one that doesn't may be anything
 abbrev pub AreTwoMarks : Trace → ℕ → ℕ → Standing → Option Op → Option Op → Type 0
 AreTwoMarks t h x q one two =
     TwoMarks (Over (LoadsLast t h x) q) (λ v. origin t v x) (if_over q one) (if_over q two)

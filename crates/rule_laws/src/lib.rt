@@ -1,5 +1,7 @@
 //! For each rule of preserved program order, what tells of an instruction that retires whether a pair of
 //! the rule is broken with an operation of it second, and which operation is first: laws over traces.
+//!
+//! Sections named in the definitions are those of the Unprivileged ISA, document 20191213.
 #![tactic(auto)]
 
 mod firsts;

@@ -82,7 +82,7 @@ impl Stores {
         requires newest { AllTagged tag self.old.stores }
         // A sweep leaves no other.
         requires swept { open_stores self.old.stores ≡ self.old.stores }
-        // Others are refused as a bad range.
+        // An access that passes 2^64 traps, and what traps stores nothing.
         requires fits { piece.now.addr + length piece.now.bytes ≤ 2 ^ 64 }
         ensures took { result ≡ took (length self.old.stores) self.old.capacity }
         ensures stores { self.new.stores

@@ -73,9 +73,8 @@ abbrev pub read_counting : ℕ → ℕ → List (Tagged Read) → Option Read
 read_counting tag x [] = None
 read_counting tag x (r ∷ rs) = if (r.tag == tag) && has r.item.piece x then Some r.item else read_counting tag x rs
 
--- the bytes at `addr + k` and at `addr + j` count from the same Read, and those below `addr + j` don't: byte k of
--- the load
--- is in the part that begins with byte j
+-- the bytes at `addr + k` and at `addr + j` count from the same Read, and those below `addr + j` don't: byte k of the
+-- load is in the part that begins with byte j
 pub record IsInPart (tag addr : ℕ) (reads : List (Tagged Read)) (k j : ℕ) : Type 0 where
   pub counts : is_some (read_counting tag (addr + k) reads) ≡ true
   pub upto : j ≤ k

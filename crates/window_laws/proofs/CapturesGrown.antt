@@ -96,8 +96,8 @@ module _ (t t' : Trace) (place : Place) (h base size : ℕ) (k : WellKinded t) (
           let same : w.0 ≡ f.store = alike t w.0 f.store k w.1.0.0 here.0.0 before after in
           f.lowest.lowest y (p.0, subst (λ (z : Op). writes y z ≡ true) same w.1.0.1)
 
-pub captures_stay : CapturesStay
-captures_stay = record {
+pub captures_go_on : CapturesStay
+captures_go_on = record {
   loads = λ initial t t' place extent capture k g late h. record {
     taken = h.taken;
     base = h.base;

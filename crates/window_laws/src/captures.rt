@@ -5,7 +5,7 @@ ghost use Rattle.window_laws.specs.CaptureLaws.{MemoryGains, MemoryStarts, Memor
 
 /// A capture stays what the stores before its place left, under each growth of a well-kinded trace whose
 /// stores aren't performed before that place.
-pub fn captures_stay()
+pub fn captures_go_on()
     ensures { CapturesStay }
 {}
 

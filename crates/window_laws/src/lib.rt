@@ -8,7 +8,7 @@ mod source;
 mod sources;
 mod waiting;
 
-pub use captures::{captures_are_taken, captures_stay, memory_gains, memory_starts, memory_stays};
+pub use captures::{captures_are_taken, captures_go_on, memory_gains, memory_starts, memory_stays};
 pub use keeping::{keeping_narrows, keeping_starts, keeping_stays};
 pub use source::ByteSource;
 pub use sources::{new_sources_are_old, sources_are_told, sources_go_on, sources_split};
