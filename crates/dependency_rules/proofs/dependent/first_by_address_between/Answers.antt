@@ -1,0 +1,16 @@
+use Rattle.std.proofs.Common.{Option, ap, ◌∙◌, subst, sym}
+use Rattle.tandem_base.specs.declared.names.OpName.{OpName}
+use Rattle.rvwmo_model.specs.declared.preserved.Rule.TheVariants.{R13}
+use Rattle.rule_laws.specs.Named.{NamesFirst}
+use Rattle.dependency_rules.specs.Asked.{where_it_stores}
+use Rattle.dependency_rules.proofs.Answered.{by_address_between}
+use Rattle.dependency_rules.proofs.dependent.first_by_address_between.Goals as goal
+
+-- the name of the mark is what the rule asks, for a store
+pub returns : goal.returns
+returns c t t' r b a e =
+    subst (λ (z : Option OpName). NamesFirst R13 t' b z)
+    (sym (c.for_store.ensures
+    ∙ ap (λ (z : Option OpName). where_it_stores c.args.kind z) c.name_after.ensures))
+    (by_address_between t t' r b c.args.deps.now c.args.place a c.args.kind e c.past_address.result
+    c.past_address.ensures)

@@ -1,0 +1,9 @@
+pub mod Answered
+pub mod Bounds
+pub mod Later
+pub mod Least
+pub mod Lines
+pub mod Noted
+pub mod Somes
+pub mod Steps
+pub mod Waited

@@ -1,0 +1,12 @@
+pub mod ByAtomic
+pub mod ByLead
+pub mod ByLoads
+pub mod ByOverlap
+pub mod BySource
+pub mod FirstWaiting
+pub mod KeptLatest
+pub mod LeadsGrown
+pub mod MarkTold
+pub mod Naming
+pub mod SinceGrown
+pub mod WaitingOver
