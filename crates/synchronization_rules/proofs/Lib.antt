@@ -1,0 +1,5 @@
+pub mod Answered
+pub mod FenceGrown
+pub mod MarksGrown
+pub mod Told
+pub mod Waits
