@@ -1,9 +1,8 @@
 //! The tables of harts at the ceilings of the limits, for the memory that they reserve.
 
-use crate::run::Run;
-use crate::stopwatch::{Told, read};
 use kept_ops::Kept;
 use merge_buffer::Lines;
+use speed_runs::{Run, Told, read};
 use std::alloc::{AllocError, Global};
 use std::io;
 use std::time::Instant;

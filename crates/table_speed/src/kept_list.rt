@@ -3,8 +3,8 @@
 ghost use Rattle.std.specs.Prelude.{◌<◌};
 
 use crate::kept_runs::operation;
-use crate::random::Random;
 use kept_ops::{Kept, KeptOp};
+use speed_runs::Random;
 use std::alloc::{AllocError, Global};
 use tandem_base::{Position, Took};
 

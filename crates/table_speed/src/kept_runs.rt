@@ -2,11 +2,9 @@
 
 ghost use Rattle.std.specs.Prelude.{◌<◌, ◌≤◌, ◌+◌, ◌^◌};
 
-use crate::orders::{Order, shuffled};
-use crate::run::Run;
-use crate::stopwatch::{Told, read};
 use kept_ops::{Kept, KeptOp};
 use rvwmo_model::OpKind;
+use speed_runs::{Order, Run, Told, read, shuffled};
 use std::alloc::{AllocError, Global};
 use std::io;
 use std::time::Instant;

@@ -14,20 +14,14 @@ mod memory_runs;
 mod merge_list;
 mod merge_runs;
 mod merging;
-mod orders;
-mod random;
 mod reporting;
-mod run;
-mod stopwatch;
 mod tag_list;
 mod tag_runs;
 mod tag_steps;
 
-use run::Run;
+use speed_runs::{Run, Told, picoseconds};
 use std::alloc::{AllocError, Global};
-use std::time::Duration;
 use std::{env, io};
-use stopwatch::Told;
 
 /// What the calls of a run answered.
 fn answers(rt: &HostRuntime, run: &Run) -> io::Result<Told> {
@@ -65,11 +59,6 @@ fn tell(rt: &HostRuntime, text: &str, timed: bool) -> io::Result<()> {
     } else {
         println!(rt; "{text}: {}", told.sum)
     }
-}
-
-/// How long each of so many calls took.
-fn picoseconds(took: Duration, calls: u32) -> u128 {
-    took.as_nanos().saturating_mul(1000) / u128::from(calls.max(1))
 }
 
 fn main(rt: HostRuntime) -> io::Result<()> {

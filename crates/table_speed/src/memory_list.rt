@@ -3,10 +3,10 @@
 ghost use Rattle.std.specs.Prelude.{◌<◌, ◌≤◌, ◌+◌, ◌^◌};
 
 use crate::image::image;
-use crate::random::Random;
 use byte_memory::{Capture, Cell, Foreign, Memory, StoreCapture, Writer};
 use elf_image::Image;
 use msg_frames::Piece;
+use speed_runs::Random;
 use std::alloc::{AllocError, Global};
 use tandem_base::{Bytes8, Extent, Position};
 

@@ -3,12 +3,10 @@
 ghost use Rattle.std.specs.Prelude.{◌<◌, ◌≤◌, ◌+◌, ◌^◌};
 
 use crate::image::image;
-use crate::orders::Order;
-use crate::run::Run;
-use crate::stopwatch::{Told, read};
 use byte_memory::{Capture, Memory, StoreCapture, Writer};
 use elf_image::Image;
 use msg_frames::Piece;
+use speed_runs::{Order, Run, Told, read};
 use std::alloc::{AllocError, Global};
 use std::io;
 use std::time::Instant;

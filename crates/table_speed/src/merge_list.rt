@@ -1,9 +1,9 @@
 //! A merge buffer beside a plain list of what waits.
 
 use crate::merging::Numbered;
-use crate::random::Random;
 use merge_buffer::{Difference, Drain, Part};
 use msg_frames::{LineWrite, Piece};
+use speed_runs::Random;
 use std::alloc::{AllocError, Global};
 use tandem_base::{Bytes8, Took};
 

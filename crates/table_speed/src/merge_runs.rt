@@ -3,12 +3,9 @@
 ghost use Rattle.std.specs.Prelude.{◌<◌, ◌≤◌, ◌+◌, ◌^◌};
 
 use crate::merging::Numbered;
-use crate::orders::Order;
-use crate::random::Random;
-use crate::run::Run;
-use crate::stopwatch::{Told, read};
 use merge_buffer::Drain;
 use msg_frames::{LineWrite, Piece};
+use speed_runs::{Order, Random, Run, Told, read};
 use std::alloc::{AllocError, Global};
 use std::io;
 use std::time::Instant;

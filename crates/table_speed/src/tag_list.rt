@@ -2,10 +2,10 @@
 
 ghost use Rattle.std.specs.Prelude.{◌<◌, ◌≤◌, ◌+◌, ◌^◌};
 
-use crate::random::Random;
 use crate::reporting::Reported;
 use byte_memory::{Capture, StoreCapture};
 use msg_frames::Piece;
+use speed_runs::Random;
 use std::alloc::{AllocError, Global};
 use tag_window::{Counting, Early, Read};
 use tandem_base::{Bytes8, Extent, Position, Took};

@@ -4,14 +4,12 @@ ghost use Rattle.std.specs.Prelude.{◌<◌, ◌≤◌, ◌+◌, ◌^◌};
 
 use crate::image::image;
 use crate::memory_runs::filled;
-use crate::orders::Order;
 use crate::reporting::Reported;
-use crate::run::Run;
-use crate::stopwatch::{Told, read};
 use crate::tag_steps::{LOAD, Plan, Step, planned};
 use byte_memory::{Capture, Memory, StoreCapture};
 use elf_image::Image;
 use msg_frames::Piece;
+use speed_runs::{Order, Run, Told, read};
 use std::alloc::{AllocError, Global};
 use std::io;
 use std::time::Instant;

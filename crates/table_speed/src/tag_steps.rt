@@ -2,9 +2,7 @@
 
 ghost use Rattle.std.specs.Prelude.{◌<◌, ◌≤◌, ◌+◌, ◌^◌};
 
-use crate::orders::{Order, shuffled};
-use crate::random::Random;
-use crate::run::Run;
+use speed_runs::{Order, Random, Run, shuffled};
 use std::alloc::{AllocError, Global};
 
 /// A message or a question.

@@ -10,14 +10,14 @@ pub struct Random {
 
 impl Random {
     /// The generator of a seed.
-    pub(crate) fn new(seed: u64) -> Random {
+    pub fn new(seed: u64) -> Random {
         Random {
             state: seed.wrapping_mul(0x9e37_79b9_7f4a_7c15) | 1,
         }
     }
 
     /// The next number below a bound that isn't 0.
-    pub(crate) fn below(&mut self, bound: u64) -> u64
+    pub fn below(&mut self, bound: u64) -> u64
         requires { 0 < bound }
         ensures { result < bound }
     {

@@ -18,7 +18,7 @@ pub enum Order {
 
 impl Order {
     /// The order with a name.
-    pub(crate) fn named(name: &str) -> Order {
+    pub fn named(name: &str) -> Order {
         match name {
             "random" => Order::Random,
             "worst" => Order::Worst,
@@ -27,7 +27,7 @@ impl Order {
     }
 
     /// The address of a line, by its number among those of a run.
-    pub(crate) fn line(self, number: u32) -> u64
+    pub fn line(self, number: u32) -> u64
         ensures { result + 128 ≤ 2 ^ 64 }
     {
         match self {
@@ -51,12 +51,7 @@ impl Order {
     }
 
     /// The addresses of the calls of a run over so many lines.
-    pub(crate) fn addresses(
-        self,
-        alloc: Global,
-        entries: u32,
-        calls: u32,
-    ) -> Result<Vec<u64>, AllocError>
+    pub fn addresses(self, alloc: Global, entries: u32, calls: u32) -> Result<Vec<u64>, AllocError>
         requires { 0 < entries }
     {
         let mut random = Random::new(7);
@@ -81,7 +76,7 @@ fn deep_line(number: u32) -> u64
 }
 
 /// The numbers from 0 up, each block of so many in any order.
-pub(crate) fn shuffled(alloc: Global, block: u32, count: u32) -> Result<Vec<u64>, AllocError>
+pub fn shuffled(alloc: Global, block: u32, count: u32) -> Result<Vec<u64>, AllocError>
     requires { 0 < block }
 {
     let mut random = Random::new(7);

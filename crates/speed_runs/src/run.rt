@@ -18,7 +18,7 @@ pub struct Run<'a> {
 
 impl<'a> Run<'a> {
     /// The run that a line names; a number that isn't there counts as 1.
-    pub(crate) fn named(text: &'a str) -> Run<'a> {
+    pub fn named(text: &'a str) -> Run<'a> {
         let mut words = text.split(' ');
         let table = words.next().unwrap_or("");
         let call = words.next().unwrap_or("");
